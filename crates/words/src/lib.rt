@@ -1,0 +1,7 @@
+// Words, tags, values, telegrams and refusals of the line register.
+pub mod mask;
+pub mod refusal;
+pub mod speed;
+pub mod tag;
+pub mod value;
+pub mod word;

@@ -1,0 +1,43 @@
+// What a call answers when it refuses.
+ghost use mathlib.Core.Path.{_≡_};
+ghost use Rattle.words.specs.Refusals.{number, carried};
+
+#[derive(Clone, Copy, PartialEq, Eq, Debug)]
+pub enum Refusal {
+    BadPlan,
+    LooseCrews,
+    NoStation,
+    HandsFull,
+    BusFull,
+    BookFull,
+    NoTelegram,
+    NotOver,
+    StrangeTicket,
+    BadWord { place: usize },
+    BadValue { place: usize },
+    BadTape { inner: u8, place: usize },
+    ShortStrip,
+}
+
+impl Refusal {
+    // The refusal's number in the table.
+    pub fn number(&self) -> u8
+        ensures { λ r. ⌜ r ≡ number (now (self .entry)) ⌝ }
+    {
+        match self {
+            Refusal::BadPlan => 1,
+            Refusal::LooseCrews => 2,
+            Refusal::NoStation => 3,
+            Refusal::HandsFull => 4,
+            Refusal::BusFull => 5,
+            Refusal::BookFull => 6,
+            Refusal::NoTelegram => 7,
+            Refusal::NotOver => 8,
+            Refusal::StrangeTicket => 9,
+            Refusal::BadWord { .. } => 10,
+            Refusal::BadValue { .. } => 11,
+            Refusal::BadTape { .. } => 12,
+            Refusal::ShortStrip => 13,
+        }
+    }
+}

@@ -1,0 +1,54 @@
+// Belt speeds.
+ghost use mathlib.Core.List.{[], _∷_};
+ghost use Rattle.words.specs.Speeds.{speed-judge, IsSpeed, speed-faults, speed-run};
+use crate::refusal::Refusal;
+use crate::value::Value;
+use crate::word::bits_of;
+use crate::word::mark;
+
+// A belt speed, a whole number from 0 to 6,000.
+#[derive(Clone, Copy, PartialEq, Eq, Debug)]
+pub struct Speed(pub u16);
+
+pub impl Value for Speed as SpeedValue {
+    ghost valid = { IsSpeed };
+
+    ghost run = { speed-run };
+
+    ghost judges = { speed-judge ∷ [] };
+
+    ghost faults = { speed-faults };
+
+    fn width() -> usize {
+        1
+    }
+
+    fn check(&self) -> Result<(), Refusal> {
+        if self.0 > 6000 {
+            return Err(Refusal::BadValue { place: 0 });
+        }
+        Ok(())
+    }
+
+    fn read(words: &[u32]) -> Result<Speed, Refusal> {
+        let [word, ..] = words else {
+            return Err(Refusal::BadWord { place: 0 });
+        };
+        let Some(bits) = bits_of(7, *word) else {
+            return Err(Refusal::BadWord { place: 0 });
+        };
+        if bits > 6000 {
+            return Err(Refusal::BadValue { place: 0 });
+        }
+        Ok(Speed(bits as u16))
+    }
+
+    fn write(&self, out: &mut [u32]) -> Result<usize, Refusal> {
+        self.check()?;
+        let [word, ..] = out else {
+            return Err(Refusal::ShortStrip);
+        };
+        *word = mark(7, u32::from(self.0));
+        Ok(1)
+    }
+}

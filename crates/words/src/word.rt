@@ -1,0 +1,60 @@
+// The 32-bit word: its kind in the top four bits, and the fields of a head word.
+ghost use mathlib.Core.Path.{_≡_};
+ghost use Prim.Native.Nat.{_^_, _<_};
+ghost use Rattle.std.specs.Options.{Cases};
+ghost use Rattle.words.specs.Words.{kind-of, marked, head-word};
+
+// The fields of a head word. On the bus `cabinet`, `station` and `job` name a telegram's parties;
+// commands and the opening of a tape use the same places for their own fields.
+#[derive(Clone, Copy, PartialEq, Eq, Debug)]
+pub struct Head {
+    pub kind: u8,
+    pub cabinet: u8,
+    pub station: u8,
+    pub job: u16,
+}
+
+// The fields of a word, nothing lost.
+pub fn split(word: u32) -> Head
+    ensures whole { λ r. ⌜ head-word r ≡ word ⌝ }
+    ensures kind { λ r. ⌜ r .kind < 16 ⌝ }
+    ensures cabinet { λ r. ⌜ r .cabinet < 16 ⌝ }
+{
+    Head {
+        kind: (word >> 28) as u8,
+        cabinet: ((word >> 24) & 0xf) as u8,
+        station: ((word >> 16) & 0xff) as u8,
+        job: (word & 0xffff) as u16,
+    }
+}
+
+// The word of a head.
+pub(crate) fn join(head: Head) -> u32
+    requires kind { ⌜ head .kind < 16 ⌝ }
+    requires cabinet { ⌜ head .cabinet < 16 ⌝ }
+    ensures { λ r. ⌜ r ≡ head-word head ⌝ }
+{
+    let upper = (u32::from(head.kind) << 4) | u32::from(head.cabinet);
+    let upper = (upper << 8) | u32::from(head.station);
+    (upper << 16) | u32::from(head.job)
+}
+
+// A word of the kind with these 28 bits.
+pub(crate) fn mark(kind: u8, bits: u32) -> u32
+    requires kind { ⌜ kind < 16 ⌝ }
+    requires bits { ⌜ bits < 2 ^ 28 ⌝ }
+    ensures { λ r. ⌜ r ≡ marked kind bits ⌝ }
+{
+    (u32::from(kind) << 28) | bits
+}
+
+// The 28 bits below the kind, if the word is of that kind.
+pub fn bits_of(kind: u8, word: u32) -> Option<u32>
+    ensures { λ r. ⌜ Cases r (kind-of word ≡ kind → ⊥) (λ bits. (bits < 2 ^ 28) × (marked kind bits ≡ word)) ⌝ }
+{
+    if word >> 28 == u32::from(kind) {
+        Some(word & 0x0fff_ffff)
+    } else {
+        None
+    }
+}
