@@ -1,3 +1,5 @@
 pub mod Fields
 pub mod Judging
 pub mod PartRows
+pub mod Reading
+pub mod TagWords

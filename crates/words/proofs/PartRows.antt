@@ -1,20 +1,18 @@
 -- Rows of parts: their words are good, and different rows have different words.
-use mathlib.Core.Path.{_≡_, _∙_, refl, sym, ap, ap₂, subst}
+use mathlib.Core.Path.{_≡_, _∙_, refl, sym, ap, ap₂}
 use mathlib.Core.Bool.{cond}
 use mathlib.Core.List.{List, [], _∷_, _++_, map}
-use Prim.Native.Nat.{ℕ, zero, suc, _+_, _*_, _/_, _^_, _≤_, _<_}
+use Prim.Native.Nat.{ℕ, zero, suc, _+_, _^_, _≤_, _<_}
 use native.Mathlib.Omega.{arith}
-use lib.Dec.{eqb, ltb, lit<}
+use lib.Dec.{ltb, lit<}
 use lib.ListN.{length, getD, set, take, drop, replicate}
-use Rattle.std.proofs.shelf.Lists.{append-assoc, drop-more, getD-replicate, length-map, length-replicate, length-take, map-push, set-at, take-more, take-more-set}
-use Rattle.std.proofs.shelf.Tests.{lt-ltb, le-ltb, eq-eqb, ne-eqb, cond-true, cond-false}
-use Rattle.words.specs.Judged.{judged, Clean}
-use Rattle.words.specs.Parts.{part-judge, part-fault, parts-run, Small}
-use Rattle.words.specs.Words.{kind-of, marked}
-use Rattle.words.proofs.Judging.{judged-at, judged-missing}
-
-part-good : (p : ℕ) → p < 2 ^ 28 → part-judge (marked 7 p) ≡ 0
-part-good p h = cond-true (eqb (kind-of (marked 7 p)) 7) 0 10 (eq-eqb (kind-of (marked 7 p)) 7 (omega arith))
+use Rattle.std.proofs.shelf.Lists.{append-assoc, drop-more, getD-replicate, length-map, length-replicate, length-take, map-push, set-at, take-all, take-more, take-more-set}
+use Rattle.std.proofs.shelf.Tests.{lt-ltb, le-ltb, cond-true, cond-false}
+use Rattle.words.specs.Judged.{judged, verdict, Clean}
+use Rattle.words.specs.Parts.{part-fault, parts-run, Small, IsMask, mask-faults}
+use Rattle.words.specs.Words.{kind-judge, marked}
+use Rattle.words.specs.declared.mask.Mask.{Mask}
+use Rattle.words.proofs.Judging.{judged-at, of-kind}
 
 pub fits : (p : ℕ) → p < 2 ^ 28 → part-fault p ≡ 0
 fits p h = cond-true (ltb p (2 ^ 28)) 0 10 (lt-ltb p (2 ^ 28) h)
@@ -22,9 +20,9 @@ fits p h = cond-true (ltb p (2 ^ 28)) 0 10 (lt-ltb p (2 ^ 28) h)
 pub too-wide : (p : ℕ) → 2 ^ 28 ≤ p → part-fault p ≡ 10
 too-wide p h = cond-false (ltb p (2 ^ 28)) 0 10 (le-ltb p (2 ^ 28) h)
 
-pub row-good : (ps : List ℕ) → Small ps → Clean (judged (replicate (length ps) part-judge) (parts-run ps))
+pub row-good : (ps : List ℕ) → Small ps → Clean (judged (replicate (length ps) (kind-judge 7)) (parts-run ps))
 row-good [] small k = refl
-row-good (p ∷ ps) small zero = part-good p (small 0)
+row-good (p ∷ ps) small zero = of-kind 7 p (marked 7 p) (small 0) refl
 row-good (p ∷ ps) small (suc k) = row-good ps (λ i. small (suc i)) k
 
 -- the fault at a place is that of the part there
@@ -48,13 +46,6 @@ row-apart (p ∷ ps) (q ∷ qs) e =
     let same : p ≡ q = omega arith in
     ap₂ _∷_ same (row-apart ps qs rest)
 
--- a word of another kind is no part
-pub no-part : (w : ℕ) → (kind-of w ≡ 7 → ⊥) → part-judge w ≡ 10
-no-part w h = cond-false (eqb (kind-of w) 7) 0 10 (ne-eqb (kind-of w) 7 h)
-
-pub is-part : (w b : ℕ) → b < 2 ^ 28 → marked 7 b ≡ w → part-judge w ≡ 0
-is-part w b h e = subst (λ (n : ℕ). part-judge n ≡ 0) e (part-good b h)
-
 -- one part more is read
 pub read-more : (ws ps : List ℕ) (i b : ℕ) → i < length ws → i < length ps → marked 7 b ≡ getD ws i 0 → take i ws ≡ parts-run (take i ps) → take (i + 1) ws ≡ parts-run (take (i + 1) (set ps i b))
 read-more ws ps i b l h e same =
@@ -72,18 +63,20 @@ write-more out ps os i h room e =
     ∙ sym (append-assoc (parts-run (take i ps)) (w ∷ []) (drop (i + 1) os)) ∙ ap (λ (t : List ℕ). t ++ drop (i + 1) os) (sym front)
 
 -- each word of a row of n parts has the same judge
-pub row-judged : (n : ℕ) (ws : List ℕ) (k : ℕ) → k < n → k < length ws → getD (judged (replicate n part-judge) ws) k 0 ≡ part-judge (getD ws k 0)
-row-judged n ws k h l =
-    let long : k < length (replicate n part-judge) = simp length-replicate h in
-    judged-at part-judge (replicate n part-judge) ws k long l ∙ ap (λ (j : ℕ → ℕ). j (getD ws k 0)) (getD-replicate n k part-judge part-judge h)
-
-pub row-missing : (n : ℕ) (ws : List ℕ) (k : ℕ) → k < n → length ws ≤ k → getD (judged (replicate n part-judge) ws) k 0 ≡ 10
-row-missing n ws k h l =
-    let long : k < length (replicate n part-judge) = simp length-replicate h in
-    judged-missing (replicate n part-judge) ws k long l
+pub row-judged : (n : ℕ) (ws : List ℕ) (k : ℕ) → k < n → getD (judged (replicate n (kind-judge 7)) ws) k 0 ≡ verdict (kind-judge 7) ws k
+row-judged n ws k h =
+    let long : k < length (replicate n (kind-judge 7)) = simp length-replicate h in
+    judged-at (kind-judge 7) (replicate n (kind-judge 7)) ws k long ∙ ap (λ (j : ℕ → ℕ). verdict j ws k) (getD-replicate n k (kind-judge 7) (kind-judge 7) h)
 
 -- what holds of the parts below the end holds of all
 pub small-all : (ps : List ℕ) → ((k : ℕ) → k < length ps → getD ps k 0 < 2 ^ 28) → Small ps
 small-all [] h k = lit< tt
 small-all (p ∷ ps) h zero = h 0 (omega arith)
 small-all (p ∷ ps) h (suc k) = small-all ps (λ i l. h (suc i) (omega arith)) k
+
+-- a mask has all of its four parts
+pub four : (m : Mask) → length (m .parts) ≡ 4 → mask-faults m ≡ map part-fault (m .parts)
+four m h = ap (map part-fault) (take-all 4 (m .parts) (omega arith))
+
+pub mask-clean : (m : Mask) → IsMask m → Clean (mask-faults m)
+mask-clean m is k = ap (λ (fs : List ℕ). getD fs k 0) (four m (is .0)) ∙ row-clean (m .parts) (is .1) k

@@ -1,7 +1,7 @@
 -- Words judged in turn, and what reading and writing a run of words answer.
 use mathlib.Core.Path.{_≡_}
 use mathlib.Core.Logic.{_⊎_}
-use mathlib.Core.List.{List, [], _∷_, _++_}
+use mathlib.Core.List.{List, [], _∷_, _++_, map}
 use Prim.Native.Nat.{ℕ, _≤_, _<_}
 use lib.ListN.{length, getD, drop}
 use Rattle.std.specs.declared.result.Result.{Result}
@@ -9,8 +9,12 @@ use Rattle.std.specs.declared.result.Result.the-variants.{Ok, Err}
 use Rattle.words.specs.declared.refusal.Refusal.{Refusal}
 use Rattle.words.specs.Refusals.{number, carried}
 
--- The judgement of each word. `judges` has for each place the number of the refusal that a word
--- there gets, or 0 for a good word. A missing word is a bad word.
+-- What a judge says of the word at a place: the number of the refusal that it gets, or 0 for a good
+-- word. A missing word is a bad word.
+abbrev pub verdict : (ℕ → ℕ) → List ℕ → ℕ → ℕ
+verdict judge ws place = getD (map judge ws) place 10
+
+-- The same of each word in turn, with a judge for each place.
 abbrev pub judged : List (ℕ → ℕ) → List ℕ → List ℕ
 judged [] ws = []
 judged (j ∷ js) [] = 10 ∷ judged js []

@@ -3,4 +3,5 @@ pub mod Parts
 pub mod Refusals
 pub mod Speeds
 pub mod Tags
+pub mod Telegrams
 pub mod Words

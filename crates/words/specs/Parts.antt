@@ -3,14 +3,10 @@ use mathlib.Core.Path.{_≡_}
 use mathlib.Core.Bool.{cond}
 use mathlib.Core.List.{List, map}
 use Prim.Native.Nat.{ℕ, _^_, _<_}
-use lib.Dec.{eqb, ltb}
-use lib.ListN.{length, getD, replicate}
+use lib.Dec.{ltb}
+use lib.ListN.{length, getD, take, replicate}
 use Rattle.words.specs.declared.mask.Mask.{Mask}
-use Rattle.words.specs.Words.{kind-of, marked}
-
--- a word for a part is one of kind 7
-abbrev pub part-judge : ℕ → ℕ
-part-judge w = cond (eqb (kind-of w) 7) 0 10
+use Rattle.words.specs.Words.{kind-judge, marked}
 
 -- a part has 28 bits
 abbrev pub part-fault : ℕ → ℕ
@@ -24,13 +20,13 @@ parts-run parts = map (marked 7) parts
 
 -- A mask: four parts.
 abbrev pub mask-judges : List (ℕ → ℕ)
-mask-judges = replicate 4 part-judge
+mask-judges = replicate 4 (kind-judge 7)
 
 abbrev pub IsMask : Mask → Type 0
 IsMask m = (length (m .parts) ≡ 4) × Small (m .parts)
 
 abbrev pub mask-faults : Mask → List ℕ
-mask-faults m = map part-fault (m .parts)
+mask-faults m = map part-fault (take 4 (m .parts))
 
 abbrev pub mask-run : Mask → List ℕ
 mask-run m = parts-run (m .parts)

@@ -1,5 +1,5 @@
 -- The number of each refusal, and the values that it carries.
-use Prim.Native.Nat.{ℕ}
+use Prim.Native.Nat.{ℕ, min, _+_, _-_, _^_}
 use mathlib.Core.List.{List, [], _∷_}
 use Rattle.words.specs.declared.refusal.Refusal.{Refusal}
 use Rattle.words.specs.declared.refusal.Refusal.the-variants.{BadPlan, LooseCrews, NoStation, HandsFull, BusFull, BookFull, NoTelegram, NotOver, StrangeTicket, BadWord, BadValue, BadTape, ShortStrip}
@@ -34,3 +34,19 @@ carried (BadWord place) = place ∷ []
 carried (BadValue place) = place ∷ []
 carried (BadTape inner place) = inner ∷ place ∷ []
 carried ShortStrip = []
+
+-- the refusal as counted from `by` words further back; a place stops at the greatest number of 64 bits
+abbrev pub shifted : ℕ → Refusal → Refusal
+shifted by BadPlan = BadPlan
+shifted by LooseCrews = LooseCrews
+shifted by NoStation = NoStation
+shifted by HandsFull = HandsFull
+shifted by BusFull = BusFull
+shifted by BookFull = BookFull
+shifted by NoTelegram = NoTelegram
+shifted by NotOver = NotOver
+shifted by StrangeTicket = StrangeTicket
+shifted by (BadWord place) = BadWord (min (place + by) (2 ^ 64 - 1))
+shifted by (BadValue place) = BadValue (min (place + by) (2 ^ 64 - 1))
+shifted by (BadTape inner place) = BadTape inner place
+shifted by ShortStrip = ShortStrip

@@ -7,7 +7,7 @@ use lib.Dec.{eqb, leb}
 use Rattle.words.specs.declared.speed.Speed.{Speed}
 use Rattle.words.specs.Words.{kind-of, marked}
 
--- another kind is a bad word, a number above 6,000 a bad value
+-- a word of another kind is a bad word, a number above 6,000 a bad value
 abbrev pub speed-judge : ℕ → ℕ
 speed-judge w = cond (eqb (kind-of w) 7) (cond (leb (w % 2 ^ 28) 6000) 0 11) 10
 

@@ -3,5 +3,6 @@ pub mod mask;
 pub mod refusal;
 pub mod speed;
 pub mod tag;
+pub mod telegram;
 pub mod value;
 pub mod word;

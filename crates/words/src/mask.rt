@@ -1,5 +1,5 @@
 // Valve masks.
-ghost use Rattle.words.specs.Parts.{mask-judges, IsMask, mask-faults, mask-run, part-judge, part-fault, parts-run, Small};
+ghost use Rattle.words.specs.Parts.{mask-judges, IsMask, mask-faults, mask-run, part-fault, parts-run, Small};
 ghost use mathlib.Core.Path.{_≡_};
 ghost use mathlib.Core.List.{map};
 ghost use Prim.Native.Nat.{_≤_};
@@ -7,9 +7,10 @@ ghost use lib.ListN.{length, take, drop, replicate};
 ghost use mathlib.Core.List.{_++_};
 ghost use Rattle.std.specs.Results.{Cases};
 ghost use Rattle.words.specs.Judged.{judged, Faulted};
+ghost use Rattle.words.specs.Words.{kind-judge};
 use crate::refusal::Refusal;
 use crate::value::Value;
-use crate::word::bits_of;
+use crate::word::bits_at;
 use crate::word::mark;
 
 // Which of 112 valves are open: four parts of 28 bits, valve 0 the lowest bit of the first part.
@@ -32,13 +33,10 @@ fn check_parts(parts: &[u32]) -> Result<(), Refusal>
 
 // Reads as many parts as there are places for.
 fn read_parts(words: &[u32], parts: &mut [u32]) -> Result<(), Refusal>
-    ensures { λ r. ⌜ Cases r (λ _. Small (now (parts .exit)) × (take (length (now (parts .exit))) (now (words .entry)) ≡ parts-run (now (parts .exit)))) (Faulted (judged (replicate (length (now (parts .entry))) part-judge) (now (words .entry)))) ⌝ }
+    ensures { λ r. ⌜ Cases r (λ _. Small (now (parts .exit)) × (take (length (now (parts .exit))) (now (words .entry)) ≡ parts-run (now (parts .exit)))) (Faulted (judged (replicate (length (now (parts .entry))) (kind-judge 7)) (now (words .entry)))) ⌝ }
 {
     for place in 0..parts.len() {
-        if place >= words.len() {
-            return Err(Refusal::BadWord { place });
-        }
-        let Some(bits) = bits_of(7, words[place]) else {
+        let Some(bits) = bits_at(7, words, place) else {
             return Err(Refusal::BadWord { place });
         };
         parts[place] = bits;

@@ -1,6 +1,6 @@
 // What a call answers when it refuses.
 ghost use mathlib.Core.Path.{_≡_};
-ghost use Rattle.words.specs.Refusals.{number, carried};
+ghost use Rattle.words.specs.Refusals.{number, shifted};
 
 #[derive(Clone, Copy, PartialEq, Eq, Debug)]
 pub enum Refusal {
@@ -38,6 +38,16 @@ impl Refusal {
             Refusal::BadValue { .. } => 11,
             Refusal::BadTape { .. } => 12,
             Refusal::ShortStrip => 13,
+        }
+    }
+    // A place counted from a part of the input, as counted from `by` words before that part.
+    pub fn shifted(self, by: usize) -> Refusal
+        ensures { λ r. ⌜ r ≡ shifted by self ⌝ }
+    {
+        match self {
+            Refusal::BadWord { place } => Refusal::BadWord { place: place.saturating_add(by) },
+            Refusal::BadValue { place } => Refusal::BadValue { place: place.saturating_add(by) },
+            other => other,
         }
     }
 }

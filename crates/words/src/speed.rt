@@ -3,7 +3,7 @@ ghost use mathlib.Core.List.{[], _∷_};
 ghost use Rattle.words.specs.Speeds.{speed-judge, IsSpeed, speed-faults, speed-run};
 use crate::refusal::Refusal;
 use crate::value::Value;
-use crate::word::bits_of;
+use crate::word::bits_at;
 use crate::word::mark;
 
 // A belt speed, a whole number from 0 to 6,000.
@@ -31,10 +31,7 @@ pub impl Value for Speed as SpeedValue {
     }
 
     fn read(words: &[u32]) -> Result<Speed, Refusal> {
-        let [word, ..] = words else {
-            return Err(Refusal::BadWord { place: 0 });
-        };
-        let Some(bits) = bits_of(7, *word) else {
+        let Some(bits) = bits_at(7, words, 0) else {
             return Err(Refusal::BadWord { place: 0 });
         };
         if bits > 6000 {

@@ -1,7 +1,7 @@
 // A kind of value that a line can hold.
 ghost use mathlib.Core.Path.{_≡_};
 ghost use mathlib.Core.List.{List};
-ghost use Prim.Native.Nat.{ℕ, _^_, _<_};
+ghost use Prim.Native.Nat.{ℕ, _^_, _<_, _≤_};
 ghost use lib.ListN.{length, take};
 ghost use Rattle.std.specs.Results.{Cases};
 ghost use Rattle.words.specs.Judged.{judged, Clean, Faulted, Written};
@@ -22,6 +22,8 @@ pub trait Value: Copy {
     ghost faults: { Self → List ℕ };
 
     law few: { length judges < 2 ^ 16 };
+
+    law within: { (v : Self) → length (faults v) ≤ length judges };
 
     law long: { (v : Self) → valid v → length (run v) ≡ length judges };
 

@@ -2,7 +2,9 @@
 ghost use mathlib.Core.Path.{_≡_};
 ghost use Prim.Native.Nat.{_^_, _<_};
 ghost use Rattle.std.specs.Options.{Cases};
-ghost use Rattle.words.specs.Words.{kind-of, marked, head-word};
+ghost use lib.ListN.{length, getD};
+ghost use Rattle.words.specs.Judged.{verdict};
+ghost use Rattle.words.specs.Words.{kind-judge, marked, head-word};
 
 // The fields of a head word. On the bus `cabinet`, `station` and `job` name a telegram's parties;
 // commands and the opening of a tape use the same places for their own fields.
@@ -48,10 +50,14 @@ pub(crate) fn mark(kind: u8, bits: u32) -> u32
     (u32::from(kind) << 28) | bits
 }
 
-// The 28 bits below the kind, if the word is of that kind.
-pub fn bits_of(kind: u8, word: u32) -> Option<u32>
-    ensures { λ r. ⌜ Cases r (kind-of word ≡ kind → ⊥) (λ bits. (bits < 2 ^ 28) × (marked kind bits ≡ word)) ⌝ }
+// The 28 bits below the kind of the word at `place`, if it is there and of that kind.
+pub fn bits_at(kind: u8, words: &[u32], place: usize) -> Option<u32>
+    ensures { λ r. ⌜ Cases r (verdict (kind-judge kind) (now (words .entry)) place ≡ 10) (λ bits. (place < length (now (words .entry))) × (bits < 2 ^ 28) × (marked kind bits ≡ getD (now (words .entry)) place 0)) ⌝ }
 {
+    if place >= words.len() {
+        return None;
+    }
+    let word = words[place];
     if word >> 28 == u32::from(kind) {
         Some(word & 0x0fff_ffff)
     } else {

@@ -7,7 +7,7 @@ use lib.ListN.{length, drop}
 use Rattle.std.proofs.shelf.Lists.{length-map}
 use Rattle.words.specs.Parts.{mask-run}
 use Rattle.words.specs.Words.{marked}
-use Rattle.words.proofs.PartRows.{row-clean}
+use Rattle.words.proofs.PartRows.{mask-clean}
 use Rattle.words.proofs.mask.MaskValue.write.Needs as need
 
 pub returns-then-out-lt4 : need.returns-then-out-lt4
@@ -15,12 +15,12 @@ returns-then-out-lt4 c =
     let m = c .args .self .now in
     let is = c .in-Continue-check .ensures tt in
     let long = length-map (m .parts) (marked 7) in
-    (refl, inr (row-clean (m .parts) (is .1), omega arith, refl))
+    (refl, inr (mask-clean m is, omega arith, refl))
 
 pub returns : need.returns
 returns c =
     let m = c .args .self .now in
     let is = c .in-Continue-check .ensures tt in
     let long : length (mask-run m) ≡ length (m .parts) = length-map (m .parts) (marked 7) in
-    (row-clean (m .parts) (is .1), omega arith, omega arith,
+    (mask-clean m is, omega arith, omega arith,
     c .write-parts .ensures ∙ ap (λ (n : ℕ). mask-run m ++ drop n (c .args .out .now)) (sym long))

@@ -1,0 +1,149 @@
+// Telegrams, and the words by which they go over the bus.
+ghost use mathlib.Core.Path.{_≡_};
+ghost use mathlib.Core.List.{List, _∷_, _++_};
+ghost use Prim.Native.Nat.{ℕ, _+_, _<_};
+ghost use lib.ListN.{length, getD, take, drop};
+ghost use Rattle.std.specs.Options.{Cases};
+ghost use Rattle.std.specs.Results as results;
+ghost use Rattle.std.specs.declared.option.Option.the-variants.{Some};
+ghost use Rattle.std.specs.declared.result.Result.the-variants.{Ok};
+ghost use Rattle.words.specs.Judged.{judged, verdict, Faulted, Written};
+ghost use Rattle.words.specs.Words.{head-word};
+ghost use Rattle.words.specs.Telegrams.{head-judge, tag-judges, IsHead, pair-of, pair-run, telegram-run, telegram-faults, IsTelegram, IsPair, pair-faults, ReadAs};
+use crate::refusal::Refusal;
+use crate::tag::Tag;
+use crate::tag::TagDebug;
+use crate::tag::TagEq;
+use crate::tag::TagPartialEq;
+use crate::value::Value;
+use crate::word::Head;
+use crate::word::bits_at;
+use crate::word::join;
+use crate::word::mark;
+use crate::word::split;
+
+// A value with its tag.
+#[derive(Clone, Copy, PartialEq, Eq, Debug)]
+pub struct Pair<V> {
+    pub tag: Tag,
+    pub value: V,
+}
+
+// A query asks a cabinet for its pair, which told answers. A set hands a cabinet a pair, which took
+// acknowledges.
+#[derive(Clone, Copy, PartialEq, Eq, Debug)]
+pub enum TelegramKind<V> {
+    Query,
+    Told(Pair<V>),
+    Set(Pair<V>),
+    Took,
+}
+
+// What goes between a cabinet and a station about one of the station's jobs.
+#[derive(Clone, Copy, PartialEq, Eq, Debug)]
+pub struct Telegram<V> {
+    pub cabinet: u8,
+    pub station: u8,
+    pub job: u16,
+    pub kind: TelegramKind<V>,
+}
+
+impl<V: Value> Pair<V> {
+    // Whether count, owner and value lie in their ranges; places count from the telegram's first word.
+    fn check(&self) -> Result<(), Refusal>
+        ensures { λ r. ⌜ results.Cases r (λ _. IsPair valid (Some (now (self .entry)))) (Faulted (0 ∷ pair-faults faults (Some (now (self .entry))))) ⌝ }
+    {
+        if self.tag.count > 0x0fff_ffff {
+            return Err(Refusal::BadWord { place: 1 });
+        }
+        if self.tag.owner > 32 {
+            return Err(Refusal::BadWord { place: 2 });
+        }
+        match self.value.check() {
+            Ok(()) => Ok(()),
+            Err(e) => Err(e.shifted(3)),
+        }
+    }
+}
+
+impl<V: Value> Telegram<V> {
+    // The tag and value that told and set carry.
+    pub fn pair(&self) -> Option<Pair<V>>
+        ensures { λ r. ⌜ r ≡ pair-of (now (self .entry) .kind) ⌝ }
+    {
+        match self.kind {
+            TelegramKind::Query => None,
+            TelegramKind::Told(pair) => Some(pair),
+            TelegramKind::Set(pair) => Some(pair),
+            TelegramKind::Took => None,
+        }
+    }
+
+    // Whether every field lies in its range; otherwise the first word at fault.
+    pub fn check(&self) -> Result<(), Refusal>
+        ensures { λ r. ⌜ results.Cases r (λ _. IsTelegram valid (now (self .entry))) (Faulted (telegram-faults faults (now (self .entry)))) ⌝ }
+    {
+        if self.cabinet > 15 || self.station < 1 || self.station > 32 || self.job > 4095 {
+            return Err(Refusal::BadWord { place: 0 });
+        }
+        match self.pair() {
+            Some(pair) => pair.check(),
+            None => Ok(()),
+        }
+    }
+    // The telegram whose run opens the words, and the run's length; otherwise the first word at fault.
+    fn read_words(words: &[u32]) -> Result<(Telegram<V>, usize), Refusal>
+        ensures { λ r. ⌜ ReadAs valid run judges (now (words .entry)) r ⌝ }
+    {
+        let Some(head) = read_head(words) else {
+            return Err(Refusal::BadWord { place: 0 });
+        };
+        let Head { kind, cabinet, station, job } = head;
+        match kind {
+            1 => Ok((Telegram { cabinet, station, job, kind: TelegramKind::Query }, 1)),
+            2 => {
+                let pair = read_pair(words)?;
+                Ok((Telegram { cabinet, station, job, kind: TelegramKind::Told(pair) }, 3 + V::width()))
+            }
+            3 => {
+                let pair = read_pair(words)?;
+                Ok((Telegram { cabinet, station, job, kind: TelegramKind::Set(pair) }, 3 + V::width()))
+            }
+            _ => Ok((Telegram { cabinet, station, job, kind: TelegramKind::Took }, 1)),
+        }
+    }
+}
+
+// The fields of the first word, if it is there and the head of a telegram.
+fn read_head(words: &[u32]) -> Option<Head>
+    ensures { λ r. ⌜ Cases r (verdict head-judge (now (words .entry)) 0 ≡ 10) (λ h. (0 < length (now (words .entry))) × (head-word h ≡ getD (now (words .entry)) 0 0) × IsHead h) ⌝ }
+{
+    if words.is_empty() {
+        return None;
+    }
+    let head = split(words[0]);
+    if head.kind < 1 || head.kind > 4 || head.station < 1 || head.station > 32 || head.job > 4095 {
+        return None;
+    }
+    Some(head)
+}
+
+// The tag and value behind the head; places count from the telegram's first word.
+fn read_pair<V: Value>(words: &[u32]) -> Result<Pair<V>, Refusal>
+    ensures { λ r. ⌜ results.Cases r (λ p. IsPair valid (Some p) × (take (2 + length judges) (drop 1 (now (words .entry))) ≡ pair-run run (Some p))) (Faulted (0 ∷ judged (tag-judges ++ judges) (drop 1 (now (words .entry))))) ⌝ }
+{
+    let Some(count) = bits_at(5, words, 1) else {
+        return Err(Refusal::BadWord { place: 1 });
+    };
+    let Some(owner) = bits_at(6, words, 2) else {
+        return Err(Refusal::BadWord { place: 2 });
+    };
+    if owner > 32 {
+        return Err(Refusal::BadWord { place: 2 });
+    }
+    let end = words.len().min(3 + V::width());
+    match V::read(&words[3..end]) {
+        Ok(value) => Ok(Pair { tag: Tag { count, owner: owner as u8 }, value }),
+        Err(e) => Err(e.shifted(3)),
+    }
+}
