@@ -2,4 +2,5 @@ pub mod Fields
 pub mod Judging
 pub mod PartRows
 pub mod Reading
+pub mod Runs
 pub mod TagWords

@@ -16,6 +16,8 @@ use Rattle.words.specs.Telegrams.{IsHead, IsPair, IsTelegram, head-judge, head
 use Rattle.words.specs.Words.{head-word, kind-of, kind-judge, marked}
 use Rattle.words.specs.declared.refusal.Refusal.{Refusal}
 use Rattle.words.specs.declared.refusal.Refusal.the-variants.{BadWord}
+use Rattle.std.specs.declared.option.Option.the-variants.{Some}
+use Rattle.words.specs.declared.telegram.Pair.{Pair}
 use Rattle.words.specs.declared.telegram.Telegram.{Telegram}
 use Rattle.words.specs.declared.word.Head.{Head}
 use Rattle.words.proofs.Judging.{behind, first, judged-long}
@@ -42,7 +44,7 @@ owner-low w b e l =
     (and-from (eqb (kind-of w) 6) (leb (w % 2 ^ 28) 32) (eq-eqb (kind-of w) 6 (omega arith)) (le-leb (w % 2 ^ 28) 32 (omega arith)))
 
 -- the part of the words that a value's reader gets is judged as the words are
-judged-take : (js : List (ℕ → ℕ)) (ws : List ℕ) (n : ℕ) → length js ≤ n → judged js (take n ws) ≡ judged js ws
+pub judged-take : (js : List (ℕ → ℕ)) (ws : List ℕ) (n : ℕ) → length js ≤ n → judged js (take n ws) ≡ judged js ws
 judged-take [] ws n h = refl
 judged-take (j ∷ js) ws zero h = absurd (omega arith)
 judged-take (j ∷ js) [] (suc n) h = refl
@@ -113,8 +115,10 @@ module _ (h : Head) (cabinet : h .cabinet < 16) (station : h .station < 256) (jo
       rw (k, s, j) (grind (arith, tells))
 
 -- a telegram that carries a pair, read whole
-module _ {V : Type 0} (valid : V → Type 0) (run : V → List ℕ) (t : Telegram V) where
-  pub read-whole : (ws : List ℕ) (n : ℕ) → IsHead (head-of t) → IsPair valid (pair-of (t .kind)) → 0 < length ws → head-word (head-of t) ≡ getD ws 0 0 → length (pair-run run (pair-of (t .kind))) ≡ 2 + n → take (2 + n) (drop 1 ws) ≡ pair-run run (pair-of (t .kind)) → IsTelegram valid t × (3 + n ≡ length (telegram-run run t)) × (take (3 + n) ws ≡ telegram-run run t)
+module _ {V : Type 0} (valid : V → Type 0) (run : V → List ℕ) (t : Telegram V) (p : Pair V) (carries : pair-of (t .kind) ≡ Some p) where
+  pub read-whole : (ws : List ℕ) (n : ℕ) → IsHead (head-of t) → IsPair valid (Some p) → 0 < length ws → head-word (head-of t) ≡ getD ws 0 0 → length (run (p .value)) ≡ n → take (2 + n) (drop 1 ws) ≡ pair-run run (Some p) → IsTelegram valid t × (3 + n ≡ length (telegram-run run t)) × (take (3 + n) ws ≡ telegram-run run t)
   read-whole ws n head pair some first long rest =
-      (record { cabinet = head .2; station = (head .3, head .4); job = head .5; pair = pair }, omega arith,
-      head-words ws (pair-run run (pair-of (t .kind))) n (head-word (head-of t)) some first rest)
+      let tail : pair-run run (Some p) ≡ pair-run run (pair-of (t .kind)) = ap (pair-run run) (sym carries) in
+      (record { cabinet = head .2; station = (head .3, head .4); job = head .5; pair = subst (IsPair valid) (sym carries) pair },
+      omega (arith, ap length tail),
+      head-words ws (pair-run run (pair-of (t .kind))) n (head-word (head-of t)) some first (rest ∙ tail))

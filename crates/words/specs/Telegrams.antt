@@ -105,3 +105,13 @@ module _ {V : Type 0} where
   ReadAs valid run judges words (Ok (t, n)) =
       IsTelegram valid t × (n ≡ length (telegram-run run t)) × (take n words ≡ telegram-run run t)
   ReadAs valid run judges words (Err e) = Faulted (judged (telegram-judges judges words) words) e
+
+  -- whatever telegram's run opens the words, that telegram is read
+  abbrev pub Exact : (V → Type 0) → (V → List ℕ) → List ℕ → Result (Telegram V × ℕ) Refusal → Type 0
+  Exact valid run words r =
+      (t : Telegram V) (rest : List ℕ) → IsTelegram valid t → words ≡ telegram-run run t ++ rest → r ≡ Ok (t, length (telegram-run run t))
+
+  -- no two telegrams share a run, and no run opens another's
+  abbrev pub OneRun : (V → Type 0) → (V → List ℕ) → Type 0
+  OneRun valid run =
+      (t u : Telegram V) (x y : List ℕ) → IsTelegram valid t → IsTelegram valid u → telegram-run run t ++ x ≡ telegram-run run u ++ y → t ≡ u

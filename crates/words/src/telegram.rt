@@ -1,7 +1,7 @@
 // Telegrams, and the words by which they go over the bus.
 ghost use mathlib.Core.Path.{_≡_};
 ghost use mathlib.Core.List.{List, _∷_, _++_};
-ghost use Prim.Native.Nat.{ℕ, _+_, _<_};
+ghost use Prim.Native.Nat.{ℕ, _+_, _<_, _≤_};
 ghost use lib.ListN.{length, getD, take, drop};
 ghost use Rattle.std.specs.Options.{Cases};
 ghost use Rattle.std.specs.Results as results;
@@ -9,7 +9,7 @@ ghost use Rattle.std.specs.declared.option.Option.the-variants.{Some};
 ghost use Rattle.std.specs.declared.result.Result.the-variants.{Ok};
 ghost use Rattle.words.specs.Judged.{judged, verdict, Faulted, Written};
 ghost use Rattle.words.specs.Words.{head-word};
-ghost use Rattle.words.specs.Telegrams.{head-judge, tag-judges, IsHead, pair-of, pair-run, telegram-run, telegram-faults, IsTelegram, IsPair, pair-faults, ReadAs};
+ghost use Rattle.words.specs.Telegrams.{head-judge, tag-judges, IsHead, kind-number, pair-of, pair-run, telegram-run, telegram-faults, IsTelegram, IsPair, pair-faults, ReadAs, Exact, OneRun};
 use crate::refusal::Refusal;
 use crate::tag::Tag;
 use crate::tag::TagDebug;
@@ -101,16 +101,22 @@ impl<V: Value> Telegram<V> {
         let Head { kind, cabinet, station, job } = head;
         match kind {
             1 => Ok((Telegram { cabinet, station, job, kind: TelegramKind::Query }, 1)),
-            2 => {
-                let pair = read_pair(words)?;
-                Ok((Telegram { cabinet, station, job, kind: TelegramKind::Told(pair) }, 3 + V::width()))
-            }
-            3 => {
-                let pair = read_pair(words)?;
-                Ok((Telegram { cabinet, station, job, kind: TelegramKind::Set(pair) }, 3 + V::width()))
+            2 | 3 => {
+                let kind = carrying(kind, read_pair(words)?);
+                Ok((Telegram { cabinet, station, job, kind }, 3 + V::width()))
             }
             _ => Ok((Telegram { cabinet, station, job, kind: TelegramKind::Took }, 1)),
         }
+    }
+
+    // Words are read as a telegram exactly when they open with its run, the only one that it has: no
+    // two telegrams share a run, and no run opens another's.
+    pub fn read(words: &[u32]) -> Result<(Telegram<V>, usize), Refusal>
+        ensures reads { λ r. ⌜ ReadAs valid run judges (now (words .entry)) r ⌝ }
+        ensures exact { λ r. ⌜ Exact valid run (now (words .entry)) r ⌝ }
+        ensures alone { λ _. ⌜ OneRun valid run ⌝ }
+    {
+        Telegram::read_words(words)
     }
 }
 
@@ -126,6 +132,19 @@ fn read_head(words: &[u32]) -> Option<Head>
         return None;
     }
     Some(head)
+}
+
+// A told, kind 2, or a set, kind 3, with its pair.
+fn carrying<V>(kind: u8, pair: Pair<V>) -> TelegramKind<V>
+    requires { ⌜ (2 ≤ kind) × (kind ≤ 3) ⌝ }
+    ensures number { λ r. ⌜ kind-number r ≡ kind ⌝ }
+    ensures pair { λ r. ⌜ pair-of r ≡ Some pair ⌝ }
+{
+    if kind == 2 {
+        TelegramKind::Told(pair)
+    } else {
+        TelegramKind::Set(pair)
+    }
 }
 
 // The tag and value behind the head; places count from the telegram's first word.
