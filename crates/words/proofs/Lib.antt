@@ -4,3 +4,4 @@ pub mod PartRows
 pub mod Reading
 pub mod Runs
 pub mod TagWords
+pub mod Writing

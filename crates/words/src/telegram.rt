@@ -1,15 +1,14 @@
 // Telegrams, and the words by which they go over the bus.
 ghost use mathlib.Core.Path.{_≡_};
-ghost use mathlib.Core.List.{List, _∷_, _++_};
-ghost use Prim.Native.Nat.{ℕ, _+_, _<_, _≤_};
+ghost use mathlib.Core.List.{[], _∷_, _++_};
+ghost use Prim.Native.Nat.{_+_, _<_, _≤_};
 ghost use lib.ListN.{length, getD, take, drop};
 ghost use Rattle.std.specs.Options.{Cases};
 ghost use Rattle.std.specs.Results as results;
 ghost use Rattle.std.specs.declared.option.Option.the-variants.{Some};
-ghost use Rattle.std.specs.declared.result.Result.the-variants.{Ok};
 ghost use Rattle.words.specs.Judged.{judged, verdict, Faulted, Written};
 ghost use Rattle.words.specs.Words.{head-word};
-ghost use Rattle.words.specs.Telegrams.{head-judge, tag-judges, IsHead, kind-number, pair-of, pair-run, telegram-run, telegram-faults, IsTelegram, IsPair, pair-faults, ReadAs, Exact, OneRun};
+ghost use Rattle.words.specs.Telegrams.{head-judge, tag-judges, IsHead, head-of, kind-number, pair-of, pair-run, telegram-run, telegram-faults, IsTelegram, IsPair, pair-faults, ReadAs, Exact, OneRun};
 use crate::refusal::Refusal;
 use crate::tag::Tag;
 use crate::tag::TagDebug;
@@ -118,6 +117,59 @@ impl<V: Value> Telegram<V> {
     {
         Telegram::read_words(words)
     }
+
+    // Puts the telegram's run down at the start of `out`, and answers its length. Fields out of range
+    // are refused before a short output, and a refusal leaves `out` as found.
+    pub fn write(&self, out: &mut [u32]) -> Result<usize, Refusal>
+        ensures { λ r. ⌜ Written (telegram-faults faults (now (self .entry))) (telegram-run run (now (self .entry))) (now (out .entry)) (now (out .exit)) r ⌝ }
+    {
+        self.check()?;
+        let head = join(self.head());
+        match self.pair() {
+            Some(pair) => write_pair(head, &pair, out),
+            None => write_alone(head, out),
+        }
+    }
+
+    // The fields of the first word.
+    fn head(&self) -> Head
+        ensures { λ r. ⌜ r ≡ head-of (now (self .entry)) ⌝ }
+    {
+        let kind = match self.kind {
+            TelegramKind::Query => 1,
+            TelegramKind::Told(_) => 2,
+            TelegramKind::Set(_) => 3,
+            TelegramKind::Took => 4,
+        };
+        Head { kind, cabinet: self.cabinet, station: self.station, job: self.job }
+    }
+}
+
+// Puts down a head that nothing follows.
+fn write_alone(head: u32, out: &mut [u32]) -> Result<usize, Refusal>
+    ensures { λ r. ⌜ Written [] (head ∷ []) (now (out .entry)) (now (out .exit)) r ⌝ }
+{
+    if out.is_empty() {
+        return Err(Refusal::ShortStrip);
+    }
+    out[0] = head;
+    Ok(1)
+}
+
+// Puts down a head with its tag and value.
+fn write_pair<V: Value>(head: u32, pair: &Pair<V>, out: &mut [u32]) -> Result<usize, Refusal>
+    requires { ⌜ IsPair valid (Some (now pair)) ⌝ }
+    ensures { λ r. ⌜ Written [] (head ∷ pair-run run (Some (now (pair .entry)))) (now (out .entry)) (now (out .exit)) r ⌝ }
+{
+    let end = 3 + V::width();
+    if out.len() < end {
+        return Err(Refusal::ShortStrip);
+    }
+    pair.value.write(&mut out[3..end])?;
+    out[0] = head;
+    out[1] = mark(5, pair.tag.count);
+    out[2] = mark(6, u32::from(pair.tag.owner));
+    Ok(end)
 }
 
 // The fields of the first word, if it is there and the head of a telegram.
