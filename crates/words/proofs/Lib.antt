@@ -1,3 +1,4 @@
+pub mod ByteRows
 pub mod Fields
 pub mod Judging
 pub mod PartRows

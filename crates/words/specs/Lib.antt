@@ -1,3 +1,4 @@
+pub mod Bytes
 pub mod Judged
 pub mod Parts
 pub mod Refusals

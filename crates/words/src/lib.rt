@@ -1,4 +1,5 @@
 // Words, tags, values, telegrams and refusals of the line register.
+pub mod bytes;
 pub mod mask;
 pub mod refusal;
 pub mod speed;

@@ -12,6 +12,7 @@ use crate::refusal::Refusal;
 use crate::value::Value;
 use crate::word::bits_at;
 use crate::word::mark;
+use std::fmt;
 
 // Which of 112 valves are open: four parts of 28 bits, valve 0 the lowest bit of the first part.
 #[derive(Clone, Copy, PartialEq, Eq, Debug)]
@@ -85,5 +86,13 @@ pub impl Value for Mask as MaskValue {
         }
         write_parts(&self.parts, out);
         Ok(4)
+    }
+}
+
+// The parts in decimal, in order.
+pub impl fmt::Display for Mask as MaskDisplay {
+    fn fmt<W: fmt::Write>(&self, f: &mut fmt::Formatter<W>) -> fmt::Result {
+        let [a, b, c, d] = self.parts;
+        write!(f, "{a} {b} {c} {d}")
     }
 }

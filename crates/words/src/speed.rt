@@ -5,6 +5,7 @@ use crate::refusal::Refusal;
 use crate::value::Value;
 use crate::word::bits_at;
 use crate::word::mark;
+use std::fmt;
 
 // A belt speed, a whole number from 0 to 6,000.
 #[derive(Clone, Copy, PartialEq, Eq, Debug)]
@@ -47,5 +48,12 @@ pub impl Value for Speed as SpeedValue {
         };
         *word = mark(7, u32::from(self.0));
         Ok(1)
+    }
+}
+
+pub impl fmt::Display for Speed as SpeedDisplay {
+    fn fmt<W: fmt::Write>(&self, f: &mut fmt::Formatter<W>) -> fmt::Result {
+        let speed = self.0;
+        write!(f, "{speed}")
     }
 }
