@@ -4,9 +4,12 @@ ghost use Rattle.std.specs.Vec.{made};
 ghost use Rattle.capture.specs.Scans.{Scans};
 use std::alloc::AllocError;
 use std::alloc::Global;
+use std::fmt;
 use words::refusal::Refusal;
+use words::refusal::RefusalDisplay;
 use words::telegram::Telegram;
 use words::telegram::TelegramClone;
+use words::telegram::TelegramDisplay;
 use words::value::Value;
 
 // What stands at a place of a capture.
@@ -36,4 +39,14 @@ pub fn scan<V: Value>(heap: Global, words: &[u32]) -> Result<Vec<Item<V>>, Alloc
         }
     }
     Ok(items)
+}
+
+// PLACE and the telegram, or `refused NUMBER PLACE`.
+pub impl<V: Value + fmt::Display> fmt::Display for Item<V> as ItemDisplay {
+    fn fmt<W: fmt::Write>(&self, f: &mut fmt::Formatter<W>) -> fmt::Result {
+        match self {
+            Item::Found(place, telegram) => write!(f, "{place} {telegram}"),
+            Item::Refused(e) => write!(f, "refused {e}"),
+        }
+    }
 }

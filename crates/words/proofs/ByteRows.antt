@@ -33,8 +33,8 @@ module _ (bs : List ℕ) where
       let room : 4 ≤ length (drop i bs) = simp length-drop (omega arith) in
       let zero-th : getD (drop i bs) 0 0 ≡ getD bs i 0 = getD-drop i bs 0 0 ∙ ap (λ (n : ℕ). getD bs n 0) (add-zero i) in
       let word : getD (drop i bs) 0 0 * 0x100_0000 + getD (drop i bs) 1 0 * 0x1_0000 + getD (drop i bs) 2 0 * 0x100 + getD (drop i bs) 3 0 ≡ w =
-          omega (arith, getD-drop i bs 1 0, getD-drop i bs 2 0, getD-drop i bs 3 0) in
+      omega (arith, getD-drop i bs 1 0, getD-drop i bs 2 0, getD-drop i bs 3 0) in
       append-assoc ws (w ∷ []) (word-list (drop (i + 4) bs))
       ∙ ap (λ (t : List ℕ). ws ++ t)
-        (ap₂ (λ (u : ℕ) (us : List ℕ). u ∷ word-list us) (sym word) (sym (drop-drop 4 i bs)) ∙ sym (one-more (drop i bs) room))
+      (ap₂ (λ (u : ℕ) (us : List ℕ). u ∷ word-list us) (sym word) (sym (drop-drop 4 i bs)) ∙ sym (one-more (drop i bs) room))
       ∙ e

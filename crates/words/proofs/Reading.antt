@@ -118,7 +118,8 @@ module _ (h : Head) (cabinet : h .cabinet < 16) (station : h .station < 256) (jo
 module _ {V : Type 0} (valid : V → Type 0) (run : V → List ℕ) (t : Telegram V) (p : Pair V) (carries : pair-of (t .kind) ≡ Some p) where
   pub read-whole : (ws : List ℕ) (n : ℕ) → IsHead (head-of t) → IsPair valid (Some p) → 0 < length ws → head-word (head-of t) ≡ getD ws 0 0 → length (run (p .value)) ≡ n → take (2 + n) (drop 1 ws) ≡ pair-run run (Some p) → IsTelegram valid t × (3 + n ≡ length (telegram-run run t)) × (take (3 + n) ws ≡ telegram-run run t)
   read-whole ws n head pair some first long rest =
-      let tail : pair-run run (Some p) ≡ pair-run run (pair-of (t .kind)) = ap (pair-run run) (sym carries) in
-      (record { cabinet = head .2; station = (head .3, head .4); job = head .5; pair = subst (IsPair valid) (sym carries) pair },
-      omega (arith, ap length tail),
-      head-words ws (pair-run run (pair-of (t .kind))) n (head-word (head-of t)) some first (rest ∙ tail))
+      let tail : pair-run run (Some p) ≡ pair-run run (pair-of (t .kind)) = ap (pair-run run) (sym carries) in (
+        record { cabinet = head .2; station = (head .3, head .4); job = head .5; pair = subst (IsPair valid) (sym carries) pair },
+        omega (arith, ap length tail),
+        head-words ws (pair-run run (pair-of (t .kind))) n (head-word (head-of t)) some first (rest ∙ tail),
+      )

@@ -89,7 +89,7 @@ module _ {V : Type 0} (valid : V → Type 0) (run : V → List ℕ) (judges : Li
         clean-more (kind-judge 5 (marked 5 (p .tag .count))) (owner-judge (marked 6 (p .tag .owner)) ∷ judged judges (run (p .value) ++ rest))
         (of-kind 5 (p .tag .count) (marked 5 (p .tag .count)) (is .0) refl)
         (clean-more (owner-judge (marked 6 (p .tag .owner))) (judged judges (run (p .value) ++ rest)) (owner-low (marked 6 (p .tag .owner)) (p .tag .owner) refl (is .1))
-          (values-clean (p .value) rest (is .2)))
+        (values-clean (p .value) rest (is .2)))
 
     -- what follows a head, as that head says
     abbrev after : ℕ → List (ℕ → ℕ)
@@ -115,7 +115,7 @@ module _ {V : Type 0} (valid : V → Type 0) (run : V → List ℕ) (judges : Li
         absurd (not-clean (subst (λ (us : List ℕ). Clean (judged (telegram-judges judges us) us)) (sym same) (run-clean t rest is)) f)
     exact ws (Ok (u, n)) got t rest is same =
         let opens : telegram-run run u ++ drop n ws ≡ telegram-run run t ++ rest =
-            ap (λ (front : List ℕ). front ++ drop n ws) (sym (got .2)) ∙ take-append-drop n ws ∙ same in
+        ap (λ (front : List ℕ). front ++ drop n ws) (sym (got .2)) ∙ take-append-drop n ws ∙ same in
         let found = one-run u t (drop n ws) rest (got .0) is opens in
         let size : n ≡ length (telegram-run run t) = got .1 ∙ ap (λ (v : Telegram V). length (telegram-run run v)) found in
         λ i. Ok (found i, size i)

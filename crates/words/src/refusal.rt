@@ -1,6 +1,7 @@
 // What a call answers when it refuses.
 ghost use mathlib.Core.Path.{_≡_};
 ghost use Rattle.words.specs.Refusals.{number, shifted};
+use std::fmt;
 
 #[derive(Clone, Copy, PartialEq, Eq, Debug)]
 pub enum Refusal {
@@ -45,9 +46,26 @@ impl Refusal {
         ensures { λ r. ⌜ r ≡ shifted by self ⌝ }
     {
         match self {
-            Refusal::BadWord { place } => Refusal::BadWord { place: place.saturating_add(by) },
-            Refusal::BadValue { place } => Refusal::BadValue { place: place.saturating_add(by) },
+            Refusal::BadWord { place } => Refusal::BadWord {
+                place: place.saturating_add(by),
+            },
+            Refusal::BadValue { place } => Refusal::BadValue {
+                place: place.saturating_add(by),
+            },
             other => other,
+        }
+    }
+}
+
+// The number, and then the values that the refusal carries.
+pub impl fmt::Display for Refusal as RefusalDisplay {
+    fn fmt<W: fmt::Write>(&self, f: &mut fmt::Formatter<W>) -> fmt::Result {
+        let number = self.number();
+        match self {
+            Refusal::BadWord { place } => write!(f, "{number} {place}"),
+            Refusal::BadValue { place } => write!(f, "{number} {place}"),
+            Refusal::BadTape { inner, place } => write!(f, "{number} {inner} {place}"),
+            _ => write!(f, "{number}"),
         }
     }
 }

@@ -20,6 +20,7 @@ use crate::word::bits_at;
 use crate::word::join;
 use crate::word::mark;
 use crate::word::split;
+use std::fmt;
 
 // A value with its tag.
 #[derive(Clone, Copy, PartialEq, Eq, Debug)]
@@ -97,14 +98,43 @@ impl<V: Value> Telegram<V> {
         let Some(head) = read_head(words) else {
             return Err(Refusal::BadWord { place: 0 });
         };
-        let Head { kind, cabinet, station, job } = head;
+        let Head {
+            kind,
+            cabinet,
+            station,
+            job,
+        } = head;
         match kind {
-            1 => Ok((Telegram { cabinet, station, job, kind: TelegramKind::Query }, 1)),
+            1 => Ok((
+                Telegram {
+                    cabinet,
+                    station,
+                    job,
+                    kind: TelegramKind::Query,
+                },
+                1,
+            )),
             2 | 3 => {
                 let kind = carrying(kind, read_pair(words)?);
-                Ok((Telegram { cabinet, station, job, kind }, 3 + V::width()))
+                Ok((
+                    Telegram {
+                        cabinet,
+                        station,
+                        job,
+                        kind,
+                    },
+                    3 + V::width(),
+                ))
             }
-            _ => Ok((Telegram { cabinet, station, job, kind: TelegramKind::Took }, 1)),
+            _ => Ok((
+                Telegram {
+                    cabinet,
+                    station,
+                    job,
+                    kind: TelegramKind::Took,
+                },
+                1,
+            )),
         }
     }
 
@@ -141,7 +171,12 @@ impl<V: Value> Telegram<V> {
             TelegramKind::Set(_) => 3,
             TelegramKind::Took => 4,
         };
-        Head { kind, cabinet: self.cabinet, station: self.station, job: self.job }
+        Head {
+            kind,
+            cabinet: self.cabinet,
+            station: self.station,
+            job: self.job,
+        }
     }
 }
 
@@ -170,6 +205,30 @@ fn write_pair<V: Value>(head: u32, pair: &Pair<V>, out: &mut [u32]) -> Result<us
     out[1] = mark(5, pair.tag.count);
     out[2] = mark(6, u32::from(pair.tag.owner));
     Ok(end)
+}
+
+// KIND CABINET STATION JOB, and for told and set COUNT OWNER VALUE.
+pub impl<V: Value + fmt::Display> fmt::Display for Telegram<V> as TelegramDisplay {
+    fn fmt<W: fmt::Write>(&self, f: &mut fmt::Formatter<W>) -> fmt::Result {
+        let kind = match self.kind {
+            TelegramKind::Query => "query",
+            TelegramKind::Told(_) => "told",
+            TelegramKind::Set(_) => "set",
+            TelegramKind::Took => "took",
+        };
+        let cabinet = self.cabinet;
+        let station = self.station;
+        let job = self.job;
+        write!(f, "{kind} {cabinet} {station} {job}")?;
+        match self.pair() {
+            Some(pair) => {
+                let Pair { tag, value } = pair;
+                let Tag { count, owner } = tag;
+                write!(f, " {count} {owner} {value}")
+            }
+            None => Ok(()),
+        }
+    }
 }
 
 // The fields of the first word, if it is there and the head of a telegram.
@@ -214,7 +273,13 @@ fn read_pair<V: Value>(words: &[u32]) -> Result<Pair<V>, Refusal>
     }
     let end = words.len().min(3 + V::width());
     match V::read(&words[3..end]) {
-        Ok(value) => Ok(Pair { tag: Tag { count, owner: owner as u8 }, value }),
+        Ok(value) => Ok(Pair {
+            tag: Tag {
+                count,
+                owner: owner as u8,
+            },
+            value,
+        }),
         Err(e) => Err(e.shifted(3)),
     }
 }

@@ -32,11 +32,12 @@ pub loop-place-again-in-Ok : need.loop-place-again-in-Ok
 loop-place-again-in-Ok g c =
     let m = g .V·Value in
     let ws = c .args .words .now in
-    let items : vec-items (c .push .last .self) ≡ vec-items (c .loop-place .items) ++ (Found (c .loop-place .place) (c .in-Ok .telegram) ∷ []) = search needs in
-    (reach g c,
-    λ rest goes.
-      one-more (Scans (m .valid) (m .run) (m .judges) ws 0) (vec-items (c .loop-place .items)) (vec-items (c .push .last .self)) rest _ items
-      (c .loop-place .inv .1 (Found (c .loop-place .place) (c .in-Ok .telegram) ∷ rest) (c .loop-place-test .taken, refl, (c .in-Ok .width, found g c, goes))))
+    let items : vec-items (c .push .last .self) ≡ vec-items (c .loop-place .items) ++ (Found (c .loop-place .place) (c .in-Ok .telegram) ∷ []) = search needs in (
+      reach g c,
+      λ rest goes.
+          one-more (Scans (m .valid) (m .run) (m .judges) ws 0) (vec-items (c .loop-place .items)) (vec-items (c .push .last .self)) rest _ items
+          (c .loop-place .inv .1 (Found (c .loop-place .place) (c .in-Ok .telegram) ∷ rest) (c .loop-place-test .taken, refl, (c .in-Ok .width, found g c, goes))),
+    )
 
 pub loop-place-again : need.loop-place-again
 loop-place-again g c =
@@ -44,11 +45,12 @@ loop-place-again g c =
     let ws = c .args .words .now in
     let e = c .shifted .result in
     let items : vec-items (c .push-in-Err .last .self) ≡ vec-items (c .loop-place .items) ++ (Refused e ∷ []) = search needs in
-    let read = from (λ us. ReadAs (m .valid) (m .run) (m .judges) us (Err (c .in-Err .e))) ws (c .loop-place .place) (c .in-Err .ensures tt .reads) in
-    (omega arith,
-    λ rest goes.
-      one-more (Scans (m .valid) (m .run) (m .judges) ws 0) (vec-items (c .loop-place .items)) (vec-items (c .push-in-Err .last .self)) rest _ items
-      (c .loop-place .inv .1 (Refused e ∷ rest) (c .loop-place-test .taken, (c .in-Err .e, read, c .shifted .ensures), goes)))
+    let read = from (λ us. ReadAs (m .valid) (m .run) (m .judges) us (Err (c .in-Err .e))) ws (c .loop-place .place) (c .in-Err .ensures tt .reads) in (
+      omega arith,
+      λ rest goes.
+          one-more (Scans (m .valid) (m .run) (m .judges) ws 0) (vec-items (c .loop-place .items)) (vec-items (c .push-in-Err .last .self)) rest _ items
+          (c .loop-place .inv .1 (Refused e ∷ rest) (c .loop-place-test .taken, (c .in-Err .e, read, c .shifted .ensures), goes)),
+    )
 
 pub returns : need.returns
 returns g c =

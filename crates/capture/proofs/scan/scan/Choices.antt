@@ -12,7 +12,7 @@ Inv-loop-place g l =
     let m = g .V·Value in
     (l .place ≤ length (l .words))
     × ((rest : List (Item (g .V .Denot))) → Scans (m .valid) (m .run) (m .judges) (l .words) (l .place) rest
-      → Scans (m .valid) (m .run) (m .judges) (l .words) 0 (vec-items (l .items) ++ rest))
+    → Scans (m .valid) (m .run) (m .judges) (l .words) 0 (vec-items (l .items) ++ rest))
 
 abbrev pub μ-loop-place : given.MeasureT-loop-place
 μ-loop-place g l = length (l .words) - l .place

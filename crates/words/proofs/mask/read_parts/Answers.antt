@@ -26,17 +26,19 @@ loop-place-again c =
     let ws = c .args .words .now in
     let got = c .in-Some .ensures tt in
     let good = of-kind 7 (c .in-Some .bits) (getD ws i 0) (got .1) (got .2) in
-    let here : i < length (c .loop-place .parts) = omega arith in
-    (below-more _ _
-      (λ k h. let other : k ≢ i = omega arith in rw getD-set-other (c .loop-place .inv .0 k h))
-      (rw getD-set-same (got .1)),
-    below-more _ _ (c .loop-place .inv .1) (row-judged _ ws i (omega arith) ∙ verdict-at (kind-judge 7) ws i (got .0) ∙ good),
-    read-more ws (c .loop-place .parts) i (c .in-Some .bits) (got .0) here (got .2) (c .loop-place .inv .2))
+    let here : i < length (c .loop-place .parts) = omega arith in (
+      below-more _ _
+          (λ k h. let other : k ≢ i = omega arith in rw getD-set-other (c .loop-place .inv .0 k h))
+          (rw getD-set-same (got .1)),
+      below-more _ _ (c .loop-place .inv .1) (row-judged _ ws i (omega arith) ∙ verdict-at (kind-judge 7) ws i (got .0) ∙ good),
+      read-more ws (c .loop-place .parts) i (c .in-Some .bits) (got .0) here (got .2) (c .loop-place .inv .2),
+    )
 
 pub returns : need.returns
 returns c =
     let ps = c .loop-place .parts in
     let i = c .loop-place .place in
-    let end : i ≡ length ps = omega arith in
-    (small-all ps (λ k h. c .loop-place .inv .0 k (omega arith)),
-    subst (λ (n : ℕ). take n (c .args .words .now) ≡ parts-run (take n ps)) end (c .loop-place .inv .2) ∙ ap parts-run (take-all (length ps) ps (omega arith)))
+    let end : i ≡ length ps = omega arith in (
+      small-all ps (λ k h. c .loop-place .inv .0 k (omega arith)),
+      subst (λ (n : ℕ). take n (c .args .words .now) ≡ parts-run (take n ps)) end (c .loop-place .inv .2) ∙ ap parts-run (take-all (length ps) ps (omega arith)),
+    )

@@ -36,9 +36,10 @@ returns-in-Ok g c =
     let owner = c .in-Some-bits-at .ensures tt in
     let got = c .in-Ok .ensures tt in
     let n = c .min-end .result - 3 in
-    let enough : min (length js) (length (drop 3 ws)) ≤ n = rw (length-drop 3 ws) (omega (arith, c .min-end .ensures, c .width .ensures)) in
-    ((count .1, c .if-owner-gt32 .left, got .0),
-    pair-words ws _ (length js) (c .in-Some .count) (c .in-Some-bits-at .owner) (owner .0) (count .2) (owner .2) (sym (taken-part js (drop 3 ws) n enough) ∙ got .1))
+    let enough : min (length js) (length (drop 3 ws)) ≤ n = rw (length-drop 3 ws) (omega (arith, c .min-end .ensures, c .width .ensures)) in (
+      (count .1, c .if-owner-gt32 .left, got .0),
+      pair-words ws _ (length js) (c .in-Some .count) (c .in-Some-bits-at .owner) (owner .0) (count .2) (owner .2) (sym (taken-part js (drop 3 ws) n enough) ∙ got .1),
+    )
 
 pub returns-in-Err : need.returns-in-Err
 returns-in-Err g c =
@@ -50,5 +51,5 @@ returns-in-Err g c =
     let enough : min (length js) (length (drop 3 ws)) ≤ n = rw (length-drop 3 ws) (omega (arith, c .min-end .ensures, c .width .ensures)) in
     subst (λ (e : Refusal). Faulted (after-head js ws) e) (sym (c .shifted .ensures))
     (at-value js ws (c .in-Err .e) (owner .0) (of-kind 5 (c .in-Some .count) (getD ws 1 0) (count .1) (count .2))
-      (owner-low (getD ws 2 0) (c .in-Some-bits-at .owner) (owner .2) (c .if-owner-gt32 .left)) (g .V·Value·met .few)
-      (subst (λ (vs : List ℕ). Faulted vs (c .in-Err .e)) (judged-part js (drop 3 ws) n enough) (c .in-Err .ensures tt)))
+    (owner-low (getD ws 2 0) (c .in-Some-bits-at .owner) (owner .2) (c .if-owner-gt32 .left)) (g .V·Value·met .few)
+    (subst (λ (vs : List ℕ). Faulted vs (c .in-Err .e)) (judged-part js (drop 3 ws) n enough) (c .in-Err .ensures tt)))

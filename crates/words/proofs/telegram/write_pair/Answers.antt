@@ -23,7 +23,10 @@ returns g c =
     let long : length run ≡ n = omega (arith, g .V·Value·met .long (c .args .pair .now .value) (c .pre .2)) in
     let put : c .write .last .out ≡ run = c .in-Continue-write .ensures tt .3 ∙ filled run os n long in
     let tag = c .args .pair .now .tag in
-    let owner : c .mark-2 .result ≡ marked 6 (tag .owner) = c .mark-2 .ensures ∙ ap (marked 6) (c .from .ensures) in
-    (clean-none, omega arith, omega arith,
-    (λ i. set (set (set (putMid 3 n os (put i)) 0 (c .args .head)) 1 (c .mark .ensures i)) 2 (owner i))
-    ∙ put-down os run n (c .args .head) (marked 5 (tag .count)) (marked 6 (tag .owner)) long (omega arith))
+    let owner : c .mark-2 .result ≡ marked 6 (tag .owner) = c .mark-2 .ensures ∙ ap (marked 6) (c .from .ensures) in (
+      clean-none,
+      omega arith,
+      omega arith,
+      (λ i. set (set (set (putMid 3 n os (put i)) 0 (c .args .head)) 1 (c .mark .ensures i)) 2 (owner i))
+          ∙ put-down os run n (c .args .head) (marked 5 (tag .count)) (marked 6 (tag .owner)) long (omega arith),
+    )

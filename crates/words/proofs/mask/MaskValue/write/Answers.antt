@@ -21,6 +21,9 @@ pub returns : need.returns
 returns c =
     let m = c .args .self .now in
     let is = c .in-Continue-check .ensures tt in
-    let long : length (mask-run m) ≡ length (m .parts) = length-map (m .parts) (marked 7) in
-    (mask-clean m is, omega arith, omega arith,
-    c .write-parts .ensures ∙ ap (λ (n : ℕ). mask-run m ++ drop n (c .args .out .now)) (sym long))
+    let long : length (mask-run m) ≡ length (m .parts) = length-map (m .parts) (marked 7) in (
+      mask-clean m is,
+      omega arith,
+      omega arith,
+      c .write-parts .ensures ∙ ap (λ (n : ℕ). mask-run m ++ drop n (c .args .out .now)) (sym long),
+    )

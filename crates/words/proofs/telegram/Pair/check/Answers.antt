@@ -25,5 +25,5 @@ returns-in-Err g c =
     let owner = owner-fault (pair .tag .owner) in
     subst (λ (e : Refusal). Faulted (0 ∷ count ∷ owner ∷ g .V·Value .faults (pair .value)) e) (sym (c .shifted .ensures))
     (behind (0 ∷ count ∷ owner ∷ []) (g .V·Value .faults (pair .value)) (c .in-Err .e)
-      (clean-3 0 count owner refl (count-good (pair .tag .count) (omega arith)) (owner-good (pair .tag .owner) (omega arith)))
-      (omega (arith, g .V·Value·met .within (pair .value), g .V·Value·met .few)) (c .in-Err .ensures tt))
+    (clean-3 0 count owner refl (count-good (pair .tag .count) (omega arith)) (owner-good (pair .tag .owner) (omega arith)))
+    (omega (arith, g .V·Value·met .within (pair .value), g .V·Value·met .few)) (c .in-Err .ensures tt))

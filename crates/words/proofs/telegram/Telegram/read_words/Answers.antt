@@ -11,4 +11,4 @@ returns-in-Continue-read-pair g c =
     let number = c .carrying-kind .ensures .number in
     rw (c .width .ensures)
     (read-whole (m .valid) (m .run) _ p (c .carrying-kind .ensures .pair) (c .args .words .now) _ (omega arith) (got .0) (head .0) (omega arith)
-      (g .V·Value·met .long (p .value) (got .0 .2)) (got .1))
+    (g .V·Value·met .long (p .value) (got .0 .2)) (got .1))
