@@ -4,5 +4,6 @@ pub mod Judging
 pub mod PartRows
 pub mod Reading
 pub mod Runs
+pub mod TagOrders
 pub mod TagWords
 pub mod Writing

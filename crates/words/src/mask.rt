@@ -14,10 +14,16 @@ use crate::word::bits_at;
 use crate::word::mark;
 use std::fmt;
 
+// How many parts a mask has.
+pub const MASK_PARTS: usize = 4;
+
+// The greatest part, 28 bits.
+pub const MAX_PART: u32 = 0x0fff_ffff;
+
 // Which of 112 valves are open: four parts of 28 bits, valve 0 the lowest bit of the first part.
 #[derive(Clone, Copy, PartialEq, Eq, Debug)]
 pub struct Mask {
-    pub parts: [u32; 4],
+    pub parts: [u32; MASK_PARTS],
 }
 
 // Whether each part has 28 bits.
@@ -25,7 +31,7 @@ fn check_parts(parts: &[u32]) -> Result<(), Refusal>
     ensures { λ r. ⌜ Cases r (λ _. Small (now (parts .entry))) (Faulted (map part-fault (now (parts .entry)))) ⌝ }
 {
     for (place, part) in parts.iter().enumerate() {
-        if *part > 0x0fff_ffff {
+        if *part > MAX_PART {
             return Err(Refusal::BadWord { place });
         }
     }
@@ -66,7 +72,7 @@ pub impl Value for Mask as MaskValue {
     ghost faults = { mask-faults };
 
     fn width() -> usize {
-        4
+        MASK_PARTS
     }
 
     fn check(&self) -> Result<(), Refusal> {
@@ -74,18 +80,18 @@ pub impl Value for Mask as MaskValue {
     }
 
     fn read(words: &[u32]) -> Result<Mask, Refusal> {
-        let mut parts = [0; 4];
+        let mut parts = [0; MASK_PARTS];
         read_parts(words, &mut parts)?;
         Ok(Mask { parts })
     }
 
     fn write(&self, out: &mut [u32]) -> Result<usize, Refusal> {
         self.check()?;
-        if out.len() < 4 {
+        if out.len() < MASK_PARTS {
             return Err(Refusal::ShortStrip);
         }
         write_parts(&self.parts, out);
-        Ok(4)
+        Ok(MASK_PARTS)
     }
 }
 

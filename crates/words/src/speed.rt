@@ -7,7 +7,13 @@ use crate::word::bits_at;
 use crate::word::mark;
 use std::fmt;
 
-// A belt speed, a whole number from 0 to 6,000.
+// How many words a speed has.
+pub const SPEED_WORDS: usize = 1;
+
+// The greatest belt speed.
+pub const MAX_SPEED: u16 = 6000;
+
+// A belt speed, a whole number from 0 to `MAX_SPEED`.
 #[derive(Clone, Copy, PartialEq, Eq, Debug)]
 pub struct Speed(pub u16);
 
@@ -21,11 +27,11 @@ pub impl Value for Speed as SpeedValue {
     ghost faults = { speed-faults };
 
     fn width() -> usize {
-        1
+        SPEED_WORDS
     }
 
     fn check(&self) -> Result<(), Refusal> {
-        if self.0 > 6000 {
+        if self.0 > MAX_SPEED {
             return Err(Refusal::BadValue { place: 0 });
         }
         Ok(())
@@ -35,7 +41,7 @@ pub impl Value for Speed as SpeedValue {
         let Some(bits) = bits_at(7, words, 0) else {
             return Err(Refusal::BadWord { place: 0 });
         };
-        if bits > 6000 {
+        if bits > u32::from(MAX_SPEED) {
             return Err(Refusal::BadValue { place: 0 });
         }
         Ok(Speed(bits as u16))
@@ -47,7 +53,7 @@ pub impl Value for Speed as SpeedValue {
             return Err(Refusal::ShortStrip);
         };
         *word = mark(7, u32::from(self.0));
-        Ok(1)
+        Ok(SPEED_WORDS)
     }
 }
 

@@ -10,6 +10,8 @@ ghost use Rattle.words.specs.Judged.{judged, verdict, Faulted, Written};
 ghost use Rattle.words.specs.Words.{head-word};
 ghost use Rattle.words.specs.Telegrams.{head-judge, tag-judges, IsHead, head-of, kind-number, pair-of, pair-run, telegram-run, telegram-faults, IsTelegram, IsPair, pair-faults, ReadAs, Exact, OneRun};
 use crate::refusal::Refusal;
+use crate::tag::MAX_COUNT;
+use crate::tag::MAX_STATION;
 use crate::tag::Tag;
 use crate::tag::TagDebug;
 use crate::tag::TagEq;
@@ -21,6 +23,12 @@ use crate::word::join;
 use crate::word::mark;
 use crate::word::split;
 use std::fmt;
+
+// The greatest number of a cabinet.
+pub const MAX_CABINET: u8 = 15;
+
+// The greatest number of a job.
+pub const MAX_JOB: u16 = 4095;
 
 // A value with its tag.
 #[derive(Clone, Copy, PartialEq, Eq, Debug)]
@@ -53,10 +61,10 @@ impl<V: Value> Pair<V> {
     fn check(&self) -> Result<(), Refusal>
         ensures { λ r. ⌜ results.Cases r (λ _. IsPair valid (Some (now (self .entry)))) (Faulted (0 ∷ pair-faults faults (Some (now (self .entry))))) ⌝ }
     {
-        if self.tag.count > 0x0fff_ffff {
+        if self.tag.count > MAX_COUNT {
             return Err(Refusal::BadWord { place: 1 });
         }
-        if self.tag.owner > 32 {
+        if self.tag.owner > MAX_STATION {
             return Err(Refusal::BadWord { place: 2 });
         }
         match self.value.check() {
@@ -83,7 +91,11 @@ impl<V: Value> Telegram<V> {
     pub fn check(&self) -> Result<(), Refusal>
         ensures { λ r. ⌜ results.Cases r (λ _. IsTelegram valid (now (self .entry))) (Faulted (telegram-faults faults (now (self .entry)))) ⌝ }
     {
-        if self.cabinet > 15 || self.station < 1 || self.station > 32 || self.job > 4095 {
+        if self.cabinet > MAX_CABINET
+            || self.station < 1
+            || self.station > MAX_STATION
+            || self.job > MAX_JOB
+        {
             return Err(Refusal::BadWord { place: 0 });
         }
         match self.pair() {
@@ -91,6 +103,7 @@ impl<V: Value> Telegram<V> {
             None => Ok(()),
         }
     }
+
     // The telegram whose run opens the words, and the run's length; otherwise the first word at fault.
     fn read_words(words: &[u32]) -> Result<(Telegram<V>, usize), Refusal>
         ensures { λ r. ⌜ ReadAs valid run judges (now (words .entry)) r ⌝ }
@@ -239,7 +252,12 @@ fn read_head(words: &[u32]) -> Option<Head>
         return None;
     }
     let head = split(words[0]);
-    if head.kind < 1 || head.kind > 4 || head.station < 1 || head.station > 32 || head.job > 4095 {
+    if head.kind < 1
+        || head.kind > 4
+        || head.station < 1
+        || head.station > MAX_STATION
+        || head.job > MAX_JOB
+    {
         return None;
     }
     Some(head)
@@ -268,7 +286,7 @@ fn read_pair<V: Value>(words: &[u32]) -> Result<Pair<V>, Refusal>
     let Some(owner) = bits_at(6, words, 2) else {
         return Err(Refusal::BadWord { place: 2 });
     };
-    if owner > 32 {
+    if owner > u32::from(MAX_STATION) {
         return Err(Refusal::BadWord { place: 2 });
     }
     let end = words.len().min(3 + V::width());

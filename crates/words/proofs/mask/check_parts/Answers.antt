@@ -3,8 +3,8 @@ use native.Mathlib.Omega.{arith}
 use Rattle.words.proofs.PartRows.{fault-at, fits, small-all, too-wide}
 use Rattle.words.proofs.mask.check_parts.Needs as need
 
-pub returns-then-part-gt268435455 : need.returns-then-part-gt268435455
-returns-then-part-gt268435455 c =
+pub returns-then-part-gt-MAX-PART : need.returns-then-part-gt-MAX-PART
+returns-then-part-gt-MAX-PART c =
     let ps = c .args .parts .now in
     let i = c .loop-place .place in
     record {

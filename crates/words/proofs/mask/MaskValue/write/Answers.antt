@@ -10,8 +10,8 @@ use Rattle.words.specs.Words.{marked}
 use Rattle.words.proofs.PartRows.{mask-clean}
 use Rattle.words.proofs.mask.MaskValue.write.Needs as need
 
-pub returns-then-out-lt4 : need.returns-then-out-lt4
-returns-then-out-lt4 c =
+pub returns-then-out-lt-MASK-PARTS : need.returns-then-out-lt-MASK-PARTS
+returns-then-out-lt-MASK-PARTS c =
     let m = c .args .self .now in
     let is = c .in-Continue-check .ensures tt in
     let long = length-map (m .parts) (marked 7) in

@@ -9,11 +9,11 @@ use Rattle.words.proofs.Judging.{behind, first}
 use Rattle.words.proofs.TagWords.{clean-1, clean-2, clean-3, count-bad, count-good, owner-bad, owner-good}
 use Rattle.words.proofs.telegram.Pair.check.Needs as need
 
-pub returns-then-self-gt268435455 : need.returns-then-self-gt268435455
-returns-then-self-gt268435455 g c = first (0 ∷ []) _ _ (BadWord 1) (clean-1 0 refl) (count-bad (c .args .self .now .tag .count) (omega arith)) refl
+pub returns-then-self-gt-MAX-COUNT : need.returns-then-self-gt-MAX-COUNT
+returns-then-self-gt-MAX-COUNT g c = first (0 ∷ []) _ _ (BadWord 1) (clean-1 0 refl) (count-bad (c .args .self .now .tag .count) (omega arith)) refl
 
-pub returns-then-self-gt32 : need.returns-then-self-gt32
-returns-then-self-gt32 g c =
+pub returns-then-self-gt-MAX-STATION : need.returns-then-self-gt-MAX-STATION
+returns-then-self-gt-MAX-STATION g c =
     let tag = c .args .self .now .tag in
     first (0 ∷ count-fault (tag .count) ∷ []) _ _ (BadWord 2) (clean-2 0 (count-fault (tag .count)) refl (count-good (tag .count) (omega arith)))
     (owner-bad (tag .owner) (omega arith)) refl
