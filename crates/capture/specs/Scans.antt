@@ -6,7 +6,7 @@ use lib.ListN.{length, drop}
 use Rattle.std.specs.declared.result.Result.the-variants.{Ok, Err}
 use Rattle.words.specs.declared.refusal.Refusal.{Refusal}
 use Rattle.words.specs.Refusals.{shifted}
-use Rattle.words.specs.Telegrams.{ReadAs}
+use Rattle.telegrams.specs.Telegrams.{ReadAs}
 use Rattle.capture.specs.declared.scan.Item.{Item}
 use Rattle.capture.specs.declared.scan.Item.the-variants.{Found, Refused}
 

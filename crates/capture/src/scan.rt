@@ -5,11 +5,11 @@ ghost use Rattle.capture.specs.Scans.{Scans};
 use std::alloc::AllocError;
 use std::alloc::Global;
 use std::fmt;
+use telegrams::Telegram;
+use telegrams::TelegramClone;
+use telegrams::TelegramDisplay;
 use words::refusal::Refusal;
 use words::refusal::RefusalDisplay;
-use words::telegram::Telegram;
-use words::telegram::TelegramClone;
-use words::telegram::TelegramDisplay;
 use words::value::Value;
 
 // What stands at a place of a capture.

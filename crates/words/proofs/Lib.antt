@@ -2,8 +2,4 @@ pub mod ByteRows
 pub mod Fields
 pub mod Judging
 pub mod PartRows
-pub mod Reading
-pub mod Runs
 pub mod TagOrders
-pub mod TagWords
-pub mod Writing

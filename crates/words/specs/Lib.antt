@@ -4,5 +4,4 @@ pub mod Parts
 pub mod Refusals
 pub mod Speeds
 pub mod Tags
-pub mod Telegrams
 pub mod Words

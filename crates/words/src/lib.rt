@@ -1,9 +1,8 @@
-// Words, tags, values, telegrams and refusals of the line register.
+// Words, tags, values and refusals of the line register.
 pub mod bytes;
 pub mod mask;
 pub mod refusal;
 pub mod speed;
 pub mod tag;
-pub mod telegram;
 pub mod value;
 pub mod word;

@@ -21,7 +21,7 @@ pub const MASK_PARTS: usize = 4;
 pub const MAX_PART: u32 = 0x0fff_ffff;
 
 // Which of 112 valves are open: four parts of 28 bits, valve 0 the lowest bit of the first part.
-#[derive(Clone, Copy, PartialEq, Eq, Debug)]
+#[derive(Clone, Copy)]
 pub struct Mask {
     pub parts: [u32; MASK_PARTS],
 }

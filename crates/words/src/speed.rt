@@ -14,7 +14,7 @@ pub const SPEED_WORDS: usize = 1;
 pub const MAX_SPEED: u16 = 6000;
 
 // A belt speed, a whole number from 0 to `MAX_SPEED`.
-#[derive(Clone, Copy, PartialEq, Eq, Debug)]
+#[derive(Clone, Copy)]
 pub struct Speed(pub u16);
 
 pub impl Value for Speed as SpeedValue {

@@ -9,7 +9,7 @@ pub const MAX_COUNT: u32 = 268_435_455;
 pub const MAX_STATION: u8 = 32;
 
 // A count, 0 to `MAX_COUNT`, and the station that owns it, or nobody.
-#[derive(Clone, Copy, PartialEq, Eq, Debug)]
+#[derive(Clone, Copy)]
 pub struct Tag {
     pub count: u32,
     pub owner: u8,

@@ -1,6 +1,6 @@
 // The 32-bit word: its kind in the top four bits, and the fields of a head word.
 ghost use mathlib.Core.Path.{_≡_};
-ghost use Prim.Native.Nat.{_^_, _<_};
+ghost use Prim.Native.Nat.{_%_, _^_, _<_};
 ghost use Rattle.std.specs.Options.{Cases};
 ghost use lib.ListN.{length, getD};
 ghost use Rattle.words.specs.Judged.{verdict};
@@ -8,7 +8,7 @@ ghost use Rattle.words.specs.Words.{kind-judge, marked, head-word};
 
 // The fields of a head word. On the bus `cabinet`, `station` and `job` name a telegram's parties;
 // commands and the opening of a tape use the same places for their own fields.
-#[derive(Clone, Copy, PartialEq, Eq, Debug)]
+#[derive(Clone, Copy)]
 pub struct Head {
     pub kind: u8,
     pub cabinet: u8,
@@ -30,24 +30,20 @@ pub fn split(word: u32) -> Head
     }
 }
 
-// The word of a head.
-pub(crate) fn join(head: Head) -> u32
-    requires kind { ⌜ head .kind < 16 ⌝ }
-    requires cabinet { ⌜ head .cabinet < 16 ⌝ }
-    ensures { λ r. ⌜ r ≡ head-word head ⌝ }
+// The word of a head, of whose kind and cabinet the lowest four bits count.
+pub fn join(head: Head) -> u32
+    ensures { λ r. ⌜ r ≡ head-word (record { kind = head .kind % 16; cabinet = head .cabinet % 16; station = head .station; job = head .job }) ⌝ }
 {
-    let upper = (u32::from(head.kind) << 4) | u32::from(head.cabinet);
+    let upper = (u32::from(head.kind & 0xf) << 4) | u32::from(head.cabinet & 0xf);
     let upper = (upper << 8) | u32::from(head.station);
     (upper << 16) | u32::from(head.job)
 }
 
-// A word of the kind with these 28 bits.
-pub(crate) fn mark(kind: u8, bits: u32) -> u32
-    requires kind { ⌜ kind < 16 ⌝ }
-    requires bits { ⌜ bits < 2 ^ 28 ⌝ }
-    ensures { λ r. ⌜ r ≡ marked kind bits ⌝ }
+// A word of the kind, of which the lowest four bits count, with the lowest 28 bits of `bits`.
+pub fn mark(kind: u8, bits: u32) -> u32
+    ensures { λ r. ⌜ r ≡ marked (kind % 16) (bits % 2 ^ 28) ⌝ }
 {
-    (u32::from(kind) << 28) | bits
+    (u32::from(kind & 0xf) << 28) | (bits & 0x0fff_ffff)
 }
 
 // The 28 bits below the kind of the word at `place`, if it is there and of that kind.

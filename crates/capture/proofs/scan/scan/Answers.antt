@@ -6,7 +6,7 @@ use borrow.Author.Needs.{needs}
 use lib.ListN.{length, drop}
 use Rattle.std.specs.Of.Vec.{vec-items}
 use Rattle.std.specs.declared.result.Result.the-variants.{Ok, Err}
-use Rattle.words.specs.Telegrams.{ReadAs, telegram-run}
+use Rattle.telegrams.specs.Telegrams.{ReadAs, telegram-run}
 use Rattle.capture.specs.Scans.{Scans}
 use Rattle.capture.specs.declared.scan.Item.{Item}
 use Rattle.capture.specs.declared.scan.Item.the-variants.{Found, Refused}

@@ -2,15 +2,18 @@ use mathlib.Core.Path.{ap, ap₂, _∙_, _≡_, subst}
 use mathlib.Core.List.{List, _++_}
 use Prim.Native.Nat.{ℕ}
 use native.Mathlib.Omega.{arith}
-use lib.ListN.{length, set, take, drop}
+use lib.ListN.{length, getD, set, take, drop}
 use Rattle.std.proofs.shelf.Lists.{take-all}
 use Rattle.words.specs.Parts.{parts-run}
+use Rattle.words.specs.Words.{marked}
 use Rattle.words.proofs.PartRows.{write-more}
 use Rattle.words.proofs.mask.write_parts.Needs as need
 
 pub loop-place-again : need.loop-place-again
 loop-place-again c =
-    ap (set (c .loop-place .out) (c .loop-place .place)) (c .mark .ensures)
+    let part = getD (c .args .parts .now) (c .loop-place .place) 0 in
+    let word : c .mark .result ≡ marked 7 part = omega (arith, c .mark .ensures, c .pre .small (c .loop-place .place)) in
+    ap (set (c .loop-place .out) (c .loop-place .place)) word
     ∙ write-more (c .loop-place .out) (c .args .parts .now) (c .args .out .now) (c .loop-place .place) (omega arith) (omega arith) (c .loop-place .inv)
 
 pub returns : need.returns

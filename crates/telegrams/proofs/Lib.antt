@@ -1,0 +1,4 @@
+pub mod Reading
+pub mod Runs
+pub mod TagWords
+pub mod Writing
