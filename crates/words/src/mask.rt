@@ -98,7 +98,12 @@ pub impl Value for Mask as MaskValue {
 // The parts in decimal, in order.
 pub impl fmt::Display for Mask as MaskDisplay {
     fn fmt<W: fmt::Write>(&self, f: &mut fmt::Formatter<W>) -> fmt::Result {
-        let [a, b, c, d] = self.parts;
-        write!(f, "{a} {b} {c} {d}")
+        for (place, part) in self.parts.iter().enumerate() {
+            if place > 0 {
+                write!(f, " ")?;
+            }
+            write!(f, "{part}")?;
+        }
+        Ok(())
     }
 }
