@@ -1,0 +1,36 @@
+// Sets of cabinets, by number: the sum of 2^k over the members k.
+ghost use mathlib.Core.Path.{_≡_};
+ghost use mathlib.Core.Bool.{cond};
+ghost use Prim.Native.Nat.{_^_};
+ghost use lib.Bits.{bitOr};
+ghost use lib.Dec.{ltb};
+ghost use Rattle.std.specs.Orderings.{When};
+ghost use Rattle.quorums.specs.Sets.{Member, Inside, Share};
+
+// Whether cabinet k is a member.
+pub fn has(set: u16, k: u8) -> bool
+    ensures { λ r. ⌜ When r (Member k set) (Member k set → ⊥) ⌝ }
+{
+    k < 16 && (set >> k) & 1 == 1
+}
+
+// The set with cabinet k, which has to be below 16 to join it.
+pub fn with(set: u16, k: u8) -> u16
+    ensures { λ r. ⌜ r ≡ cond (ltb k 16) (bitOr set (2 ^ k)) set ⌝ }
+{
+    if k < 16 { set | (1u16 << k) } else { set }
+}
+
+// Whether every member of s is one of t.
+pub fn is_inside(s: u16, t: u16) -> bool
+    ensures { λ r. ⌜ When r (Inside s t) (Inside s t → ⊥) ⌝ }
+{
+    s & t == s
+}
+
+// Whether s and t share a cabinet.
+pub fn do_share(s: u16, t: u16) -> bool
+    ensures { λ r. ⌜ When r (Share s t) (Share s t → ⊥) ⌝ }
+{
+    s & t != 0
+}
