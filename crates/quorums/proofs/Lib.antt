@@ -1,3 +1,5 @@
 pub mod Counting
 pub mod Majorities
 pub mod Members
+pub mod Picks
+pub mod Tables

@@ -3,13 +3,13 @@ use mathlib.Core.Path.{_≡_, _∙_, refl, sym, ap, subst}
 use mathlib.Core.Bool.{Bool, true, false, cond}
 use mathlib.Core.Logic.{_⊎_, inl, inr, ⊎-elim}
 use Prim.Native.Nat.{ℕ, zero, suc, min, max, _+_, _-_, _*_, _/_, _%_, _^_, _≤_, _<_}
-use native.Mathlib.Nat.{div-eq-of-lt, lt-of-lt-of-le, mod-lt}
+use native.Mathlib.Nat.{div-eq-of-lt, lt-of-lt-of-le, mod-eq-of-lt, mod-lt}
 use native.Mathlib.Omega.{arith}
 use lib.Arith.{bin-ind}
 use lib.Bits.{bitAnd, bitOr, and-le-r, and-shr, and-step, or-shifted-r, or-shr, or-step}
 use lib.Dec.{ltb}
 use lib.Pow.{mod-mod-pow, pow-mono}
-use Rattle.std.proofs.shelf.Bits.{div-add-mod', div-mul-add, field-of, mod-pow-add, pow-add, pow-below, pow-pos, shr-shr}
+use Rattle.std.proofs.shelf.Bits.{and-mask, div-add-mod', div-mul-add, field-of, mod-pow-add, pow-add, pow-below, pow-pos, shr-shr}
 use Rattle.std.proofs.shelf.Tests.{cases-eq, cases-lt, cases-order, cond-true, lt-ltb}
 use Rattle.std.specs.Orderings.{When}
 use Rattle.quorums.specs.Sets.{Member, Inside, Share}
@@ -172,3 +172,10 @@ share-some s t m =
 pub front-grown : (k s front r : ℕ) → k < 16 → Member k s → front ≡ s % 2 ^ k → r ≡ cond (ltb k 16) (bitOr front (2 ^ k)) front → r ≡ s % 2 ^ (k + 1)
 front-grown k s front r h m e is =
     is ∙ cond-true (ltb k 16) (bitOr front (2 ^ k)) front (lt-ltb k 16 h) ∙ ap (λ (f : ℕ). bitOr f (2 ^ k)) e ∙ front-with k s m
+
+-- all cabinets together
+pub all-inside : (n s : ℕ) → s < 2 ^ n → Inside s (2 ^ n - 1)
+all-inside n s h = inside-and s (2 ^ n - 1) (and-mask s n ∙ mod-eq-of-lt h)
+
+pub inside-all : (n s : ℕ) → Inside s (2 ^ n - 1) → s < 2 ^ n
+inside-all n s i = omega (arith, inside-le s (2 ^ n - 1) i, pow-pos n)

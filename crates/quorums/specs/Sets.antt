@@ -1,6 +1,6 @@
 -- Sets of cabinets. A set goes by its number, the sum of 2^k over its members k.
 use mathlib.Core.Path.{_≡_}
-use Prim.Native.Nat.{ℕ, _/_, _%_, _^_, _≤_}
+use Prim.Native.Nat.{ℕ, min, _/_, _%_, _^_, _≤_}
 use Rattle.std.specs.declared.option.Option.{Option}
 use Rattle.std.specs.declared.option.Option.the-variants.{Some, None}
 
@@ -19,3 +19,8 @@ Share s t = (k : ℕ) × Member k s × Member k t
 abbrev pub Picked : (ℕ → Type 0) → ℕ → Option ℕ → Type 0
 Picked family given None = (s : ℕ) → family s → Inside s given → ⊥
 Picked family given (Some s) = family s × Inside s given × ((t : ℕ) → family t → Inside t given → s ≤ t)
+
+-- the lesser of the best set so far, if there is one, and another
+abbrev pub lesser : Option ℕ → ℕ → ℕ
+lesser None s = s
+lesser (Some b) s = min b s

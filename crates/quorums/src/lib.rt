@@ -5,6 +5,7 @@ ghost use Rattle.quorums.specs.Sets.{Member, Share, Picked};
 
 pub mod majority;
 pub mod sets;
+pub mod table;
 
 // The most cabinets that a line can have.
 pub const MAX_CABINETS: u8 = 16;

@@ -1,11 +1,11 @@
 // Sets of cabinets, by number: the sum of 2^k over the members k.
 ghost use mathlib.Core.Path.{_≡_};
 ghost use mathlib.Core.Bool.{cond};
-ghost use Prim.Native.Nat.{_^_};
+ghost use Prim.Native.Nat.{min, _-_, _^_};
 ghost use lib.Bits.{bitOr};
 ghost use lib.Dec.{ltb};
 ghost use Rattle.std.specs.Orderings.{When};
-ghost use Rattle.quorums.specs.Sets.{Member, Inside, Share};
+ghost use Rattle.quorums.specs.Sets.{Member, Inside, Share, lesser};
 
 // Whether cabinet k is a member.
 pub fn has(set: u16, k: u8) -> bool
@@ -33,4 +33,21 @@ pub fn do_share(s: u16, t: u16) -> bool
     ensures { λ r. ⌜ When r (Share s t) (Share s t → ⊥) ⌝ }
 {
     s & t != 0
+}
+
+// The set of all of so many cabinets, at most 16.
+pub fn all(cabinets: u8) -> u16
+    ensures { λ r. ⌜ r ≡ 2 ^ min cabinets 16 - 1 ⌝ }
+{
+    ((1u32 << cabinets.min(16)) - 1) as u16
+}
+
+// The lesser of the best set so far, if there is one, and another.
+pub fn least(best: Option<u16>, s: u16) -> u16
+    ensures { λ r. ⌜ r ≡ lesser best s ⌝ }
+{
+    match best {
+        Some(b) => b.min(s),
+        None => s,
+    }
 }
