@@ -1,4 +1,5 @@
 pub mod Counting
+pub mod Grids
 pub mod Majorities
 pub mod Members
 pub mod Picks

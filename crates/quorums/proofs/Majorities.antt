@@ -39,10 +39,10 @@ module _ (n : ℕ) where
     (lt-of-lt-of-le (mod-lt given (pow-pos k)) (pow-mono h), enough),
     front-inside k given,
     λ t m i.
-      ⊎-elim
-      (λ l. let e : t ≡ given % 2 ^ k = inside-same t (given % 2 ^ k) (inside-front k t given l i) (m .1 ∙ sym enough) in omega arith)
-      (λ l. omega (arith, mod-lt given (pow-pos k)))
-      (cases-lt t (2 ^ k)),
+        ⊎-elim
+        (λ l. let e : t ≡ given % 2 ^ k = inside-same t (given % 2 ^ k) (inside-front k t given l i) (m .1 ∙ sym enough) in omega arith)
+        (λ l. omega (arith, mod-lt given (pow-pos k)))
+        (cases-lt t (2 ^ k)),
   )
 
   -- too few members, and no majority lies inside

@@ -62,8 +62,8 @@ member-below n k s h m =
 pub below : (n s : ℕ) → ((k : ℕ) → Member k s → k < n) → s < 2 ^ n
 below n s h =
     let high : s / 2 ^ n ≡ 0 =
-        none (s / 2 ^ n)
-        (λ k. ⊎-elim (λ m. absurd (omega (arith, h (n + k) (sym (ap (λ (x : ℕ). x % 2) (shr-shr s n k)) ∙ m)))) (λ z. z) (member-or-not k (s / 2 ^ n))) in
+    none (s / 2 ^ n)
+    (λ k. ⊎-elim (λ m. absurd (omega (arith, h (n + k) (sym (ap (λ (x : ℕ). x % 2) (shr-shr s n k)) ∙ m)))) (λ z. z) (member-or-not k (s / 2 ^ n))) in
     omega (arith, ap (λ (q : ℕ). q * 2 ^ n) high, div-add-mod' s (2 ^ n), mod-lt s (pow-pos n))
 
 -- inside, by `and`
@@ -128,10 +128,10 @@ pub only-member : (k j : ℕ) → Member j (2 ^ k) → j ≡ k
 only-member k j m =
     ⊎-elim (λ e. e)
     (⊎-elim
-      (λ l.
-        let whole : suc (k - suc j) + j ≡ k = omega arith in
-        absurd (omega (arith, m, ap (λ (n : ℕ). bit j (2 ^ n)) (sym whole) ∙ lower (k - suc j) j)))
-      (λ l. absurd (omega (arith, m, bit-high j (2 ^ k) (pow-below k j l)))))
+    (λ l.
+    let whole : suc (k - suc j) + j ≡ k = omega arith in
+    absurd (omega (arith, m, ap (λ (n : ℕ). bit j (2 ^ n)) (sym whole) ∙ lower (k - suc j) j)))
+    (λ l. absurd (omega (arith, m, bit-high j (2 ^ k) (pow-below k j l)))))
     (cases-order j k)
 
 -- a set with one cabinet more

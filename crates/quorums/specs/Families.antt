@@ -28,3 +28,7 @@ abbrev pub GridOf : ℕ → ℕ → ℕ → Type 0
 GridOf r c s =
     (row : ℕ) × (column : ℕ) × (row < r) × (column < c)
     × ((k : ℕ) → Member k s ↔ ((k < r * c) × ((k / c ≡ row) ⊎ (k % c ≡ column))))
+
+-- of n cabinets in c columns, the row and the column that cross at a cabinet
+abbrev pub CrossOf : ℕ → ℕ → ℕ → ℕ → Type 0
+CrossOf n c at s = (k : ℕ) → Member k s ↔ ((k < n) × ((k / c ≡ at / c) ⊎ (k % c ≡ at % c)))

@@ -3,6 +3,7 @@ ghost use mathlib.Core.Path.{_≡_};
 ghost use Prim.Native.Nat.{ℕ, _≤_, _<_};
 ghost use Rattle.quorums.specs.Sets.{Member, Share, Picked};
 
+pub mod grid;
 pub mod majority;
 pub mod sets;
 pub mod table;

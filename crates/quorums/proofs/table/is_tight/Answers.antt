@@ -19,18 +19,19 @@ returns-then-not-is-inside c tight =
     let i = c .loop-s .s-index in
     let whole = line (c .args .cabinets) (c .all .result) (omega arith) (c .all .ensures) in
     elim (c .then-not-is-inside .came) [
-      then-not-is-inside·by·then-not-is-inside w ↦
-        w .if-not-is-inside .ensures tt
-        (subst (λ (t : ℕ). Inside (getD (c .args .sets .now) i 0) t) (sym whole) (all-inside (c .args .cabinets) (getD (c .args .sets .now) i 0) (tight .line i (omega arith))))
-    | then-not-is-inside·by·else-not-is-inside·then-not-shares-all w ↦ w .if-not-shares-all .ensures tt (λ k h. tight .share i k (omega arith) h)
+      | then-not-is-inside·by·then-not-is-inside w ↦
+          w .if-not-is-inside .ensures tt
+          (subst (λ (t : ℕ). Inside (getD (c .args .sets .now) i 0) t) (sym whole) (all-inside (c .args .cabinets) (getD (c .args .sets .now) i 0) (tight .line i (omega arith))))
+      | then-not-is-inside·by·else-not-is-inside·then-not-shares-all w ↦ w .if-not-shares-all .ensures tt (λ k h. tight .share i k (omega arith) h)
     ]
 
 pub loop-s-again : need.loop-s-again
 loop-s-again c =
     let i = c .loop-s .s-index in
     let sets = c .args .sets .now in
-    let whole = line (c .args .cabinets) (c .all .result) (omega arith) (c .all .ensures) in
-    (below-more _ _ (c .loop-s .inv .0)
-      (inside-all (c .args .cabinets) (getD sets i 0) (subst (λ (t : ℕ). Inside (getD sets i 0) t) whole (c .if-not-is-inside .ensures tt))),
-    λ j k h l.
-      below-more (λ j. (k : ℕ) → k < length sets → Share (getD sets j 0) (getD sets k 0)) i (λ j h k l. c .loop-s .inv .1 j k h l) (c .if-not-shares-all .ensures tt) j h k l)
+    let whole = line (c .args .cabinets) (c .all .result) (omega arith) (c .all .ensures) in (
+      below-more _ _ (c .loop-s .inv .0)
+          (inside-all (c .args .cabinets) (getD sets i 0) (subst (λ (t : ℕ). Inside (getD sets i 0) t) whole (c .if-not-is-inside .ensures tt))),
+      λ j k h l.
+          below-more (λ j. (k : ℕ) → k < length sets → Share (getD sets j 0) (getD sets k 0)) i (λ j h k l. c .loop-s .inv .1 j k h l) (c .if-not-shares-all .ensures tt) j h k l,
+    )

@@ -24,12 +24,12 @@ loop-s-again c =
     let new = here sets i (omega arith) in
     let cases = far-or-here sets i (omega arith) in
     elim (c .if-is-inside .came) [
-      then-is-inside w ↦
-        subst (Picked G (c .args .given)) (sym (w .best-is ∙ ap Some (w .least .ensures)))
-        (pick-more F G (c .args .given) s old new cases (c .loop-s .best) (c .loop-s .inv) (w .if-is-inside .ensures tt))
-    | else-is-inside w ↦
-        subst (Picked G (c .args .given)) (sym (w .best-is))
-        (pick-same F G (c .args .given) s old new cases (c .loop-s .best) (c .loop-s .inv) (w .if-is-inside .ensures tt))
+      | then-is-inside w ↦
+          subst (Picked G (c .args .given)) (sym (w .best-is ∙ ap Some (w .least .ensures)))
+          (pick-more F G (c .args .given) s old new cases (c .loop-s .best) (c .loop-s .inv) (w .if-is-inside .ensures tt))
+      | else-is-inside w ↦
+          subst (Picked G (c .args .given)) (sym (w .best-is))
+          (pick-same F G (c .args .given) s old new cases (c .loop-s .best) (c .loop-s .inv) (w .if-is-inside .ensures tt))
     ]
 
 pub returns : need.returns
