@@ -1,59 +1,26 @@
 -- Grids: crossings, what two of them share, and the crossings so far.
 use mathlib.Core.Path.{_≡_, _∙_, refl, sym, ap, subst}
-use mathlib.Core.Bool.{Bool, true, false, cond, _||_}
-use mathlib.Core.Logic.{_⊎_, _↔_, inl, inr, ⊎-elim}
-use Prim.Native.Nat.{ℕ, zero, suc, _+_, _*_, _/_, _%_, _^_, _≤_, _<_}
-use native.Mathlib.Nat.{mul-comm, mod-lt}
+use mathlib.Core.Logic.{_⊎_, inl, inr, ⊎-elim}
+use Prim.Native.Nat.{ℕ, _+_, _*_, _/_, _%_, _≤_, _<_}
+use native.Mathlib.Nat.{mul-comm}
 use native.Mathlib.Omega.{arith}
-use lib.Bits.{bitOr}
-use lib.Dec.{eqb}
-use Rattle.std.proofs.shelf.Bits.{div-add-mod', div-below, div-mul-add, mod-mul-add, mod-below, mul-add-lt, pow-pos}
+use Rattle.std.proofs.shelf.Bits.{div-below, div-mul-add, mod-mul-add, mod-below, mul-add-lt}
 use Rattle.std.proofs.shelf.Tests.{cases-eq, cases-lt}
 use Rattle.quorums.specs.Families.{CrossOf, GridOf}
 use Rattle.quorums.specs.Sets.{Member, Share}
-use Rattle.quorums.proofs.Members.{bit, bit-high, member-or-not, same, with-cases, with-kept, with-member}
+use Rattle.quorums.proofs.Members.{those-same, those-some}
 
--- the crossing set so far: cabinets below n that the rows and columns take
+-- what the row and the column at a cabinet take
 abbrev pub Taken : ℕ → ℕ → ℕ → Type 0
 Taken c at k = (k / c ≡ at / c) ⊎ (k % c ≡ at % c)
 
-module _ (c at : ℕ) where
-  pub cross-none : CrossOf 0 c at 0
-  cross-none k = ((λ m. absurd (omega (arith, bit-high k 0 (pow-pos k)))), (λ h. absurd (omega (arith, h .0))))
+known : (c at k : ℕ) → Taken c at k ⊎ (Taken c at k → ⊥)
+known c at k =
+    ⊎-elim (λ r. inl (inl r)) (λ r. ⊎-elim (λ l. inl (inr l)) (λ l. inr (⊎-elim r l)) (cases-eq (k % c) (at % c)))
+    (cases-eq (k / c) (at / c))
 
-  pub cross-taken : (n s : ℕ) → CrossOf n c at s → Taken c at n → CrossOf (n + 1) c at (bitOr s (2 ^ n))
-  cross-taken n s h t k = (
-    (λ m. ⊎-elim (λ o. let p = h k .0 o in (omega (arith, p .0), p .1)) (λ e. (omega arith, subst (Taken c at) (sym e) t)) (with-cases s n k m)),
-    (λ p. ⊎-elim (λ l. with-kept s n k (h k .1 (l, p .1))) (λ l. let e : n ≡ k = omega (arith, p .0) in subst (λ (x : ℕ). Member x (bitOr s (2 ^ n))) e (with-member s n)) (cases-lt k n)),
-  )
-
-  pub cross-passed : (n s : ℕ) → CrossOf n c at s → (Taken c at n → ⊥) → CrossOf (n + 1) c at s
-  cross-passed n s h no-taken k = (
-    (λ m. let p = h k .0 m in (omega (arith, p .0), p .1)),
-    (λ p. ⊎-elim (λ l. h k .1 (l, p .1)) (λ l. let e : k ≡ n = omega (arith, p .0) in absurd (no-taken (subst (Taken c at) e (p .1)))) (cases-lt k n)),
-  )
-
-  -- one set at each crossing
-  pub cross-same : (n s t : ℕ) → CrossOf n c at s → CrossOf n c at t → s ≡ t
-  cross-same n s t p q =
-      same s t
-      (λ k.
-      ⊎-elim (λ m. m ∙ sym (q k .1 (p k .0 m)))
-      (λ z. ⊎-elim (λ m. absurd (omega (arith, p k .1 (q k .0 m)))) (λ y. z ∙ sym y) (member-or-not k t))
-      (member-or-not k s))
-
-  -- there is one
-  pub cross-some : (n : ℕ) → (s : ℕ) × CrossOf n c at s
-  cross-some zero = (0, cross-none)
-  cross-some (suc n) =
-      let up : n + 1 ≡ suc n = omega arith in
-      let lower = cross-some n in
-      subst (λ (m : ℕ). (s : ℕ) × CrossOf m c at s) up
-      (⊎-elim (λ r. (bitOr (lower .0) (2 ^ n), cross-taken n (lower .0) (lower .1) (inl r)))
-      (λ r.
-      ⊎-elim (λ l. (bitOr (lower .0) (2 ^ n), cross-taken n (lower .0) (lower .1) (inr l)))
-      (λ l. (lower .0, cross-passed n (lower .0) (lower .1) (⊎-elim r l))) (cases-eq (n % c) (at % c)))
-      (cases-eq (n / c) (at / c)))
+pub cross-some : (c at n : ℕ) → (s : ℕ) × CrossOf n c at s
+cross-some c at n = those-some (Taken c at) (known c at) n
 
 module _ (r c : ℕ) where
   -- a quorum is the crossing at the cabinet of its row and column
@@ -101,5 +68,5 @@ module _ (n c i s : ℕ) (x : CrossOf n c i s) where
   pub cross-cases : (t : ℕ) → CrossBelow n c (i + 1) t → CrossBelow n c i t ⊎ (t ≡ s)
   cross-cases t m =
       ⊎-elim (λ l. inl (m .0, l, m .2))
-      (λ l. let e : m .0 ≡ i = omega (arith, m .1) in inr (cross-same c i n t s (subst (λ (at : ℕ). CrossOf n c at t) e (m .2)) x))
+      (λ l. let e : m .0 ≡ i = omega (arith, m .1) in inr (those-same (Taken c i) n t s (subst (λ (at : ℕ). CrossOf n c at t) e (m .2)) x))
       (cases-lt (m .0) i)

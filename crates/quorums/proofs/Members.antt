@@ -12,7 +12,7 @@ use lib.Pow.{mod-mod-pow, pow-mono}
 use Rattle.std.proofs.shelf.Bits.{and-mask, div-add-mod', div-mul-add, field-of, mod-pow-add, pow-add, pow-below, pow-pos, shr-shr}
 use Rattle.std.proofs.shelf.Tests.{cases-eq, cases-lt, cases-order, cond-true, lt-ltb}
 use Rattle.std.specs.Orderings.{When}
-use Rattle.quorums.specs.Sets.{Member, Inside, Share}
+use Rattle.quorums.specs.Sets.{Member, Inside, Share, Those}
 
 -- the bit of a cabinet
 abbrev pub bit : ℕ → ℕ → ℕ
@@ -179,3 +179,42 @@ all-inside n s h = inside-and s (2 ^ n - 1) (and-mask s n ∙ mod-eq-of-lt h)
 
 pub inside-all : (n s : ℕ) → Inside s (2 ^ n - 1) → s < 2 ^ n
 inside-all n s i = omega (arith, inside-le s (2 ^ n - 1) i, pow-pos n)
+
+-- sets made by going through the cabinets
+module _ (P : ℕ → Type 0) where
+  pub those-none : Those P 0 0
+  those-none k = ((λ m. absurd (omega (arith, bit-high k 0 (pow-pos k)))), (λ h. absurd (omega (arith, h .0))))
+
+  pub those-taken : (n s : ℕ) → Those P n s → P n → Those P (n + 1) (bitOr s (2 ^ n))
+  those-taken n s h t k = (
+    (λ m. ⊎-elim (λ o. let p = h k .0 o in (omega (arith, p .0), p .1)) (λ e. (omega arith, subst P (sym e) t)) (with-cases s n k m)),
+    (λ p. ⊎-elim (λ l. with-kept s n k (h k .1 (l, p .1))) (λ l. let e : n ≡ k = omega (arith, p .0) in subst (λ (x : ℕ). Member x (bitOr s (2 ^ n))) e (with-member s n)) (cases-lt k n)),
+  )
+
+  pub those-passed : (n s : ℕ) → Those P n s → (P n → ⊥) → Those P (n + 1) s
+  those-passed n s h out k = (
+    (λ m. let p = h k .0 m in (omega (arith, p .0), p .1)),
+    (λ p. ⊎-elim (λ l. h k .1 (l, p .1)) (λ l. let e : k ≡ n = omega (arith, p .0) in absurd (out (subst P e (p .1)))) (cases-lt k n)),
+  )
+
+  -- the set that the function `with` makes
+  pub those-with : (n s r : ℕ) → n < 16 → Those P n s → P n → r ≡ cond (ltb n 16) (bitOr s (2 ^ n)) s → Those P (n + 1) r
+  those-with n s r h so-far t is =
+      subst (Those P (n + 1)) (sym (is ∙ cond-true (ltb n 16) (bitOr s (2 ^ n)) s (lt-ltb n 16 h))) (those-taken n s so-far t)
+
+  -- one set of those, and one only
+  pub those-same : (n s t : ℕ) → Those P n s → Those P n t → s ≡ t
+  those-same n s t p q =
+      same s t
+      (λ k.
+      ⊎-elim (λ m. m ∙ sym (q k .1 (p k .0 m)))
+      (λ z. ⊎-elim (λ m. absurd (omega (arith, p k .1 (q k .0 m)))) (λ y. z ∙ sym y) (member-or-not k t))
+      (member-or-not k s))
+
+  pub those-some : ((k : ℕ) → P k ⊎ (P k → ⊥)) → (n : ℕ) → (s : ℕ) × Those P n s
+  those-some known zero = (0, those-none)
+  those-some known (suc n) =
+      let up : n + 1 ≡ suc n = omega arith in
+      let lower = those-some known n in
+      subst (λ (m : ℕ). (s : ℕ) × Those P m s) up
+      (⊎-elim (λ t. (bitOr (lower .0) (2 ^ n), those-taken n (lower .0) (lower .1) t)) (λ out. (lower .0, those-passed n (lower .0) (lower .1) out)) (known n))

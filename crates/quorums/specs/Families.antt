@@ -1,11 +1,11 @@
 -- Which sets are the quorums of each system.
 use mathlib.Core.Path.{_≡_}
-use mathlib.Core.Logic.{_⊎_, _↔_}
+use mathlib.Core.Logic.{_⊎_}
 use mathlib.Core.List.{List}
 use Prim.Native.Nat.{ℕ, _+_, _*_, _/_, _%_, _^_, _≤_, _<_}
 use lib.Count.{ones}
 use lib.ListN.{length, getD}
-use Rattle.quorums.specs.Sets.{Member, Share}
+use Rattle.quorums.specs.Sets.{Share, Those}
 
 -- majority of n cabinets: the sets of exactly n ÷ 2 + 1 of them
 abbrev pub MajorityOf : ℕ → ℕ → Type 0
@@ -27,8 +27,8 @@ pub record Tight (n : ℕ) (list : List ℕ) : Type 0 where
 abbrev pub GridOf : ℕ → ℕ → ℕ → Type 0
 GridOf r c s =
     (row : ℕ) × (column : ℕ) × (row < r) × (column < c)
-    × ((k : ℕ) → Member k s ↔ ((k < r * c) × ((k / c ≡ row) ⊎ (k % c ≡ column))))
+    × Those (λ k. (k / c ≡ row) ⊎ (k % c ≡ column)) (r * c) s
 
 -- of n cabinets in c columns, the row and the column that cross at a cabinet
 abbrev pub CrossOf : ℕ → ℕ → ℕ → ℕ → Type 0
-CrossOf n c at s = (k : ℕ) → Member k s ↔ ((k < n) × ((k / c ≡ at / c) ⊎ (k % c ≡ at % c)))
+CrossOf n c at s = Those (λ k. (k / c ≡ at / c) ⊎ (k % c ≡ at % c)) n s

@@ -5,7 +5,7 @@ ghost use Prim.Native.Nat.{min, _-_, _^_};
 ghost use lib.Bits.{bitOr};
 ghost use lib.Dec.{ltb};
 ghost use Rattle.std.specs.Orderings.{When};
-ghost use Rattle.quorums.specs.Sets.{Member, Inside, Share, lesser};
+ghost use Rattle.quorums.specs.Sets.{Member, Inside, Share, Those, lesser};
 
 // Whether cabinet k is a member.
 pub fn has(set: u16, k: u8) -> bool
@@ -50,4 +50,17 @@ pub fn least(best: Option<u16>, s: u16) -> u16
         Some(b) => b.min(s),
         None => s,
     }
+}
+
+// Those of so many cabinets, at most 16, that are not in the set.
+pub fn outside(set: u16, cabinets: u8) -> u16
+    ensures { λ r. ⌜ Those (λ k. Member k set → ⊥) (min cabinets 16) r ⌝ }
+{
+    let mut others = 0u16;
+    for k in 0..cabinets.min(16) {
+        if !has(set, k) {
+            others = with(others, k);
+        }
+    }
+    others
 }

@@ -1,13 +1,10 @@
-use mathlib.Core.Path.{_≡_, _∙_, sym, subst}
+use mathlib.Core.Path.{sym, subst}
 use mathlib.Core.Logic.{inl, inr, ⊎-elim}
-use mathlib.Core.Bool.{cond}
-use Prim.Native.Nat.{ℕ, _+_, _^_}
+use Prim.Native.Nat.{_+_}
 use native.Mathlib.Omega.{arith}
-use lib.Bits.{bitOr}
-use lib.Dec.{ltb}
-use Rattle.std.proofs.shelf.Tests.{cond-true, lt-ltb}
 use Rattle.quorums.specs.Families.{CrossOf}
-use Rattle.quorums.proofs.Grids.{Taken, cross-passed, cross-taken}
+use Rattle.quorums.proofs.Grids.{Taken}
+use Rattle.quorums.proofs.Members.{those-passed, those-with}
 use Rattle.quorums.proofs.grid.Grid.cross.Needs as need
 use Rattle.quorums.proofs.grid.Grid.cross.Needs.{then-k-self, then-k-self·by·then-k-self, then-k-self·by·else-k-self·then-k-self-2, else-k-self·else-k-self-2}
 
@@ -23,10 +20,9 @@ loop-k-again c =
             | then-k-self·by·then-k-self v ↦ inl (v .if-k-self .taken)
             | then-k-self·by·else-k-self·then-k-self-2 v ↦ inr (v .if-k-self-2 .taken)
           ] in
-          let joined : c .if-k-self .s ≡ bitOr s (2 ^ k) =
-          w .s-is ∙ w .with-s .ensures ∙ cond-true (ltb k 16) (bitOr s (2 ^ k)) s (lt-ltb k 16 (omega arith)) in
-          subst (CrossOf (k + 1) cs (c .args .at)) (sym joined) (cross-taken cs (c .args .at) k s (c .loop-k .inv) taken)
+          subst (CrossOf (k + 1) cs (c .args .at)) (sym (w .s-is))
+          (those-with (Taken cs (c .args .at)) k s (w .with-s .result) (omega arith) (c .loop-k .inv) taken (w .with-s .ensures))
       | else-k-self·else-k-self-2 w ↦
           subst (CrossOf (k + 1) cs (c .args .at)) (sym (w .s-is))
-          (cross-passed cs (c .args .at) k s (c .loop-k .inv) (⊎-elim (w .if-k-self .left) (w .if-k-self-2 .left)))
+          (those-passed (Taken cs (c .args .at)) k s (c .loop-k .inv) (⊎-elim (w .if-k-self .left) (w .if-k-self-2 .left)))
     ]
