@@ -26,29 +26,45 @@ module _ (tags : List Tag) where
   low s (suc n) =
       ⊎-elim
       (λ m.
-        ⊎-elim
-        (λ nobody.
-          inr (n, m, λ j h mj.
-            ⊎-elim (λ l. absurd (nobody j l mj)) (λ l. let e : n ≡ j = omega arith in subst (λ (i : ℕ). Upto (told tags n) (told tags i)) e (upto-refl (told tags n))) (cases-lt j n)))
-        (λ found.
-          let k = found .0 in
-          ⊎-elim
-          (λ b.
-            inr (n, m, λ j h mj.
-              ⊎-elim (λ l. tag-order .through (told tags n) (told tags k) (told tags j) (b .0, λ e. omega (arith, b .1 e)) (found .2 j l mj))
-              (λ l. let e : n ≡ j = omega arith in subst (λ (i : ℕ). Upto (told tags n) (told tags i)) e (upto-refl (told tags n))) (cases-lt j n)))
-          (λ u.
-            inr (k, found .1, λ j h mj.
-              ⊎-elim (λ l. found .2 j l mj) (λ l. let e : n ≡ j = omega arith in subst (λ (i : ℕ). Upto (told tags k) (told tags i)) e u) (cases-lt j n)))
-          (tag-order .either (told tags n) (told tags k)))
-        (low s n))
+      ⊎-elim
+      (λ nobody.
+      inr (
+        n,
+        m,
+        λ j h mj.
+            ⊎-elim (λ l. absurd (nobody j l mj)) (λ l. let e : n ≡ j = omega arith in subst (λ (i : ℕ). Upto (told tags n) (told tags i)) e (upto-refl (told tags n))) (cases-lt j n),
+      ))
+      (λ found.
+      let k = found .0 in
+      ⊎-elim
+      (λ b.
+      inr (
+        n,
+        m,
+        λ j h mj.
+            ⊎-elim (λ l. tag-order .through (told tags n) (told tags k) (told tags j) (b .0, λ e. omega (arith, b .1 e)) (found .2 j l mj))
+            (λ l. let e : n ≡ j = omega arith in subst (λ (i : ℕ). Upto (told tags n) (told tags i)) e (upto-refl (told tags n))) (cases-lt j n),
+      ))
+      (λ u.
+      inr (
+        k,
+        found .1,
+        λ j h mj.
+            ⊎-elim (λ l. found .2 j l mj) (λ l. let e : n ≡ j = omega arith in subst (λ (i : ℕ). Upto (told tags k) (told tags i)) e u) (cases-lt j n),
+      ))
+      (tag-order .either (told tags n) (told tags k)))
+      (low s n))
       (λ z.
-        ⊎-elim
-        (λ nobody. inl (λ j h mj. ⊎-elim (λ l. nobody j l mj) (λ l. let e : j ≡ n = omega arith in omega (arith, subst (λ (i : ℕ). Member i s) e mj)) (cases-lt j n)))
-        (λ found.
-          inr (found .0, found .1, λ j h mj.
-            ⊎-elim (λ l. found .2 j l mj) (λ l. let e : j ≡ n = omega arith in absurd (omega (arith, subst (λ (i : ℕ). Member i s) e mj))) (cases-lt j n)))
-        (low s n))
+      ⊎-elim
+      (λ nobody. inl (λ j h mj. ⊎-elim (λ l. nobody j l mj) (λ l. let e : j ≡ n = omega arith in omega (arith, subst (λ (i : ℕ). Member i s) e mj)) (cases-lt j n)))
+      (λ found.
+      inr (
+        found .0,
+        found .1,
+        λ j h mj.
+            ⊎-elim (λ l. found .2 j l mj) (λ l. let e : j ≡ n = omega arith in absurd (omega (arith, subst (λ (i : ℕ). Member i s) e mj))) (cases-lt j n),
+      ))
+      (low s n))
       (member-or-not n s)
 
   module _ (q : ℕ) (F : ℕ → Type 0) (small : q < 2 ^ 16) (share : (c d : ℕ) → F c → F d → Share c d) where
@@ -58,19 +74,19 @@ module _ (tags : List Tag) where
       j .0,
       j .1,
       λ fq c fc other.
-        let both = share c q fc fq in
-        let s = bitAnd c q in
-        let in-both : (k : ℕ) → Member k c → Member k q → Member k s = λ k mc mq. omega (arith, bit-and c q k) in
-        let of-both : (k : ℕ) → Member k s → Member k c × Member k q = λ k m. (omega (arith, bit-and c q k), omega (arith, bit-and c q k)) in
-        ⊎-elim
-        (λ nobody. absurd (nobody (both .0) (member-below 16 (both .0) q small (both .2)) (in-both (both .0) (both .1) (both .2))))
-        (λ found.
+          let both = share c q fc fq in
+          let s = bitAnd c q in
+          let in-both : (k : ℕ) → Member k c → Member k q → Member k s = λ k mc mq. omega (arith, bit-and c q k) in
+          let of-both : (k : ℕ) → Member k s → Member k c × Member k q = λ k m. (omega (arith, bit-and c q k), omega (arith, bit-and c q k)) in
+          ⊎-elim
+          (λ nobody. absurd (nobody (both .0) (member-below 16 (both .0) q small (both .2)) (in-both (both .0) (both .1) (both .2))))
+          (λ found.
           let k = found .0 in
           let parts = of-both k (found .1) in
           ⊎-elim
           (λ b. absurd (j .2 (told tags k) (k, parts .1, refl) b
-            (c, fc, other, λ i mc mq. found .2 i (member-below 16 i q small mq) (in-both i mc mq))))
+          (c, fc, other, λ i mc mq. found .2 i (member-below 16 i q small mq) (in-both i mc mq))))
           (λ u. (k, parts .0, parts .1, tag-order .same (told tags k) t u (j .1 k (parts .1))))
           (tag-order .either t (told tags k)))
-        (low s 16),
+          (low s 16),
     )

@@ -32,7 +32,7 @@ module _ (tags : List Tag) (q : ℕ) (F : ℕ → Type 0) where
   pub start : (top : Tag) → q < 2 ^ 16 → Held tags q top → Latest tags q top → Going q top 0
   start top small held latest =
       let not-later : (u : Tag) → Held tags q u → Before top u → ⊥ =
-          λ u h b. tag-order .not-both top u b (subst (λ (t : Tag). Upto t top) (h .2) (latest (h .0) (h .1))) in
+      λ u h b. tag-order .not-both top u b (subst (λ (t : Tag). Upto t top) (h .2) (latest (h .0) (h .1))) in
       record {
         remain = λ k. ((λ m. (m, latest k m)), (λ p. p .0));
         held = held;
@@ -61,10 +61,10 @@ module _ (tags : List Tag) (q : ℕ) (F : ℕ → Type 0) where
         let inside : Inside rest remaining = λ k m. those k .0 m .1 .0 in
         ⊎-elim
         (λ e.
-          let all = inside-same rest remaining inside e in
-          let k = go .held .0 in
-          let lower = rest-earlier k (subst (λ (s : ℕ). Member k s) (sym all) (go .held .1)) .1 in
-          absurd (tag-order .not-both (told tags k) at lower (subst (λ (t : Tag). Upto at t) (sym (go .held .2)) (upto-refl at))))
+        let all = inside-same rest remaining inside e in
+        let k = go .held .0 in
+        let lower = rest-earlier k (subst (λ (s : ℕ). Member k s) (sym all) (go .held .1)) .1 in
+        absurd (tag-order .not-both (told tags k) at lower (subst (λ (t : Tag). Upto at t) (sym (go .held .2)) (upto-refl at))))
         (λ ne. omega (arith, inside-ones rest remaining inside))
         (cases-eq (ones rest) (ones remaining))
 
@@ -89,31 +89,41 @@ module _ (tags : List Tag) (q : ℕ) (F : ℕ → Type 0) where
       second-trip top n c top-held top-latest given others fc within = (
         top-held,
         top-latest,
-        (at, at-held, (next, next-held, next-earlier),
-          (c, fc,
+        (
+          at,
+          at-held,
+          (next, next-held, next-earlier),
+          (
+            c,
+            fc,
             (λ e. others (held .0) .0 (within (held .0) (subst (λ (s : ℕ). Member (held .0) s) (sym e) (rest-earlier (held .0) (held .1) .0))) .1 (held .1)),
-            λ k mc mq. ⊎-elim (λ b. absurd (others k .0 (within k mc) .1 (earlier-rest k mq b))) (λ u. u) (tag-order .either (told tags k) at)),
-          go .none-later, go .struck),
+            λ k mc mq. ⊎-elim (λ b. absurd (others k .0 (within k mc) .1 (earlier-rest k mq b))) (λ u. u) (tag-order .either (told tags k) at),
+          ),
+          go .none-later,
+          go .struck,
+        ),
       )
 
       -- no quorum lies outside the rest: the holders of `at` are struck
       pub onward : (n : ℕ) → ((c : ℕ) → F c → (k : ℕ) → Member k c → k < n) → (given : ℕ) → Those (λ k. Member k rest → ⊥) n given → ((c : ℕ) → F c → Inside c given → ⊥) → Going rest next (strikes + 1)
       onward n line given others none =
           let closed : OtherAt tags q F at → ⊥ =
-              λ o. none (o .0) (o .1)
-                (λ k m. others k .1 (line (o .0) (o .1) k m,
-                  λ r. let p = rest-earlier k r in tag-order .not-both (told tags k) at (p .1) (o .3 k m (p .0)))) in
+          λ o. none (o .0) (o .1)
+          (λ k m. others k .1 (
+            line (o .0) (o .1) k m,
+            λ r. let p = rest-earlier k r in tag-order .not-both (told tags k) at (p .1) (o .3 k m (p .0)),
+          )) in
           -- a tag of q later than next is `at` or later
           let gap : (u : Tag) → Held tags q u → Before next u → Before at u ⊎ (at ≡ u) =
-              λ u h b.
-                ⊎-elim inl
-                (λ up.
-                  ⊎-elim
-                  (λ lower.
-                    absurd (tag-order .not-both next u b
-                      (subst (λ (t : Tag). Upto t next) (h .2) (latest (h .0) (earlier-rest (h .0) (h .1) (subst (λ (t : Tag). Before t at) (sym (h .2)) lower))))))
-                  (λ upper. inr (tag-order .same at u upper up)) (tag-order .either u at))
-                (tag-order .either at u) in
+          λ u h b.
+          ⊎-elim inl
+          (λ up.
+          ⊎-elim
+          (λ lower.
+          absurd (tag-order .not-both next u b
+          (subst (λ (t : Tag). Upto t next) (h .2) (latest (h .0) (earlier-rest (h .0) (h .1) (subst (λ (t : Tag). Before t at) (sym (h .2)) lower))))))
+          (λ upper. inr (tag-order .same at u upper up)) (tag-order .either u at))
+          (tag-order .either at u) in
           let ts = go .struck .0 in
           let all = go .struck .2 in
           record {
@@ -124,12 +134,15 @@ module _ (tags : List Tag) (q : ℕ) (F : ℕ → Type 0) where
             held = held;
             none-later = λ u h b o.
                 ⊎-elim (λ later. go .none-later u h later o) (λ e. closed (subst (OtherAt tags q F) (sym e) o)) (gap u h b);
-            struck = (at ∷ ts, ((λ u m. all u .0 m .1), go .struck .1),
+            struck = (
+              at ∷ ts,
+              ((λ u m. all u .0 m .1), go .struck .1),
               (λ u. (
                 ⊎-elim (λ e. subst (λ (t : Tag). Held tags q t × Before next t) e (at-held, next-earlier))
-                (λ m. let p = all u .0 m in (p .0, tag-order .before-through next at u next-earlier (before-upto at u (p .1)))),
+                    (λ m. let p = all u .0 m in (p .0, tag-order .before-through next at u next-earlier (before-upto at u (p .1)))),
                 (λ p. ⊎-elim (λ later. inr (all u .1 (p .0, later))) inl (gap u (p .0) (p .1))),
               )),
-              ap suc (go .struck .3) ∙ omega arith);
+              ap suc (go .struck .3) ∙ omega arith,
+            );
             few = omega (arith, go .few, fewer);
           }

@@ -34,16 +34,17 @@ module _ (tags : List Tag) (set : ℕ) where
   top-more n (Some b) t r top m e up is = (
     ⊎-elim (λ old. (top .0 .0, top .0 .1, top .0 .2 ∙ sym old)) (λ new. (n, m, e ∙ sym new)) (is .1),
     λ k h mk.
-      ⊎-elim (λ l. tag-order .through (told tags k) b r (top .1 k l mk) (is .0))
-      (λ l. let at : n ≡ k = omega arith in subst (λ (j : ℕ). Upto (told tags j) r) at (subst (λ (u : Tag). Upto u r) (sym e) up)) (cases-lt k n),
+        ⊎-elim (λ l. tag-order .through (told tags k) b r (top .1 k l mk) (is .0))
+        (λ l. let at : n ≡ k = omega arith in subst (λ (j : ℕ). Upto (told tags j) r) at (subst (λ (u : Tag). Upto u r) (sym e) up)) (cases-lt k n),
   )
 
   -- no member more
   pub top-same : (n : ℕ) (best : Option Tag) → Top n best → (Member n set → ⊥) → Top (n + 1) best
   top-same n None top out = λ k h m. ⊎-elim (λ l. top k l m) (λ l. let at : k ≡ n = omega arith in out (subst (λ (j : ℕ). Member j set) at m)) (cases-lt k n)
-  top-same n (Some b) top out =
-      (top .0,
-      λ k h m. ⊎-elim (λ l. top .1 k l m) (λ l. let at : k ≡ n = omega arith in absurd (out (subst (λ (j : ℕ). Member j set) at m))) (cases-lt k n))
+  top-same n (Some b) top out = (
+    top .0,
+    λ k h m. ⊎-elim (λ l. top .1 k l m) (λ l. let at : k ≡ n = omega arith in absurd (out (subst (λ (j : ℕ). Member j set) at m))) (cases-lt k n),
+  )
 
   -- all members are below 16
   pub top-all : (best : Option Tag) → ((k : ℕ) → Member k set → k < 16) → Top 16 best → Cases best ((k : ℕ) → Member k set → ⊥) (λ t. Held tags set t × Latest tags set t)

@@ -6,6 +6,7 @@ ghost use lib.ListN.{length};
 ghost use Rattle.std.specs.Options.{Cases};
 ghost use Rattle.words.specs.Tags.{Before, Upto};
 ghost use Rattle.quorums.specs.Sets.{Member, Those};
+ghost use Rattle.views.specs.Settings.{KnownSettings};
 ghost use Rattle.views.specs.Views.{told, Held, Judged, Judges, Latest};
 use quorums::QuorumSystem;
 use quorums::sets::all;
@@ -27,13 +28,7 @@ fn later(best: Option<Tag>, tag: Tag) -> Tag
     ensures upper { λ r. ⌜ Upto tag r × Cases best (r ≡ tag) (λ b. Upto b r × ((r ≡ b) ⊎ (r ≡ tag))) ⌝ }
 {
     match best {
-        Some(b) => {
-            if tag.is_later(&b) {
-                tag
-            } else {
-                b
-            }
-        }
+        Some(b) => { if tag.is_later(&b) { tag } else { b } }
         None => tag,
     }
 }
@@ -93,7 +88,8 @@ fn strike<S: QuorumSystem>(system: &S, q: u16, tags: &[Tag], top: Tag) -> (Verdi
 // The verdict on a read whose quorum q told these tags, by cabinet, and the number of strikes. None
 // exactly if q has no member, or one that told no tag.
 pub fn judge<S: QuorumSystem>(system: &S, q: u16, tags: &[Tag]) -> Option<(Verdict, u8)>
-    ensures { λ r. ⌜ Judges (now (tags .entry)) q (quorum (now (system .entry))) r ⌝ }
+    ensures judges { λ r. ⌜ Judges (now (tags .entry)) q (quorum (now (system .entry))) r ⌝ }
+    ensures known { λ _. ⌜ KnownSettings ⌝ }
 {
     let told = tags.len().min(16) as u8;
     if !is_inside(q, all(told)) {

@@ -4,6 +4,7 @@ use Prim.Native.Nat.{ℕ, min, _-_, _^_, _≤_, _<_}
 use native.Mathlib.Omega.{arith}
 use Rattle.quorums.specs.Sets.{Inside, Member}
 use Rattle.quorums.proofs.Members.{all-inside, below, inside-all, member-below}
+use Rattle.views.proofs.Known.{known-settings}
 use Rattle.views.proofs.Laws.{lawful}
 use Rattle.views.proofs.judge.Needs as need
 
@@ -23,8 +24,14 @@ line-is : (long n line : ℕ) → n ≡ min long 16 → line ≡ 2 ^ min n 16 - 
 line-is long n line e is = is ∙ ap (λ (k : ℕ). 2 ^ min k 16 - 1) e
 
 pub returns-then-not-is-inside : need.returns-then-not-is-inside
-returns-then-not-is-inside g c some told =
-    c .if-not-is-inside .ensures tt (all-told (c .args .q) _ (c .all .result) (omega arith) (line-is _ _ (c .all .result) (c .min-told .ensures) (c .all .ensures)) told)
+returns-then-not-is-inside g c = record {
+  judges = λ some told.
+      c .if-not-is-inside .ensures tt (all-told (c .args .q) _ (c .all .result) (omega arith) (line-is _ _ (c .all .result) (c .min-told .ensures) (c .all .ensures)) told);
+  known = known-settings;
+}
+
+pub returns-in-rest : need.returns-in-rest
+returns-in-rest g c = record { judges = λ some told. c .in-rest .ensures tt (some .0) (some .1); known = known-settings }
 
 pub latest-requires : need.latest-requires
 latest-requires g c κs =
@@ -37,8 +44,11 @@ strike-requires g c κs = record {
 }
 
 pub returns : need.returns
-returns g c = (
-  told-all (c .args .q) _ (c .all .result) (omega arith) (line-is _ _ (c .all .result) (c .min-told .ensures) (c .all .ensures)) (c .if-not-is-inside .ensures tt),
-  c .strike .ensures,
-  lawful (c .args .tags .now) (c .args .q) (g .S·QuorumSystem .quorum (c .args .system .now)) (omega arith) (g .S·QuorumSystem·met .share (c .args .system .now)) (c .strike .result .0) (c .strike .result .1) (c .strike .ensures),
-)
+returns g c = record {
+  judges = (
+    told-all (c .args .q) _ (c .all .result) (omega arith) (line-is _ _ (c .all .result) (c .min-told .ensures) (c .all .ensures)) (c .if-not-is-inside .ensures tt),
+    c .strike .ensures,
+    lawful (c .args .tags .now) (c .args .q) (g .S·QuorumSystem .quorum (c .args .system .now)) (omega arith) (g .S·QuorumSystem·met .share (c .args .system .now)) (c .strike .result .0) (c .strike .result .1) (c .strike .ensures),
+  );
+  known = known-settings;
+}

@@ -11,11 +11,11 @@ use Rattle.views.proofs.latest.Needs.{then-has, else-has}
 pub loop-k-again : need.loop-k-again
 loop-k-again c =
     elim (c .if-has .came) [
-      then-has w ↦
-        subst (Top (c .args .tags .now) (c .args .set) (c .loop-k .k + 1)) (sym (w .best-is))
-        (top-more (c .args .tags .now) (c .args .set) (c .loop-k .k) (c .loop-k .best) _ (w .later .result) (c .loop-k .inv) (w .if-has .ensures tt)
+      | then-has w ↦
+          subst (Top (c .args .tags .now) (c .args .set) (c .loop-k .k + 1)) (sym (w .best-is))
+          (top-more (c .args .tags .now) (c .args .set) (c .loop-k .k) (c .loop-k .best) _ (w .later .result) (c .loop-k .inv) (w .if-has .ensures tt)
           (ap (told (c .args .tags .now)) (sym (w .from .ensures))) (w .later .ensures .upper .0) (w .later .ensures .upper .1))
-    | else-has w ↦ subst (Top (c .args .tags .now) (c .args .set) (c .loop-k .k + 1)) (sym (w .best-is)) (top-same (c .args .tags .now) (c .args .set) (c .loop-k .k) (c .loop-k .best) (c .loop-k .inv) (w .if-has .ensures tt))
+      | else-has w ↦ subst (Top (c .args .tags .now) (c .args .set) (c .loop-k .k + 1)) (sym (w .best-is)) (top-same (c .args .tags .now) (c .args .set) (c .loop-k .k) (c .loop-k .best) (c .loop-k .inv) (w .if-has .ensures tt))
     ]
 
 pub returns : need.returns
