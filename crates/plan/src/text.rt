@@ -6,7 +6,7 @@ use std::alloc::Global;
 use words::tag::Tag;
 
 // Cabinets from 0 to 15 with commas between, or - for the empty set.
-pub fn parse_set(text: &str) -> Option<u16> {
+pub(crate) fn parse_set(text: &str) -> Option<u16> {
     let mut set = 0u16;
     if text == "-" {
         return Some(set);
@@ -26,7 +26,7 @@ pub fn parse_set(text: &str) -> Option<u16> {
 }
 
 // COUNT.OWNER
-pub fn parse_tag(text: &str) -> Option<Tag> {
+pub(crate) fn parse_tag(text: &str) -> Option<Tag> {
     let (count, owner) = text.split_once('.')?;
     let Ok(count) = count.parse::<u32>() else {
         return None;
@@ -38,7 +38,7 @@ pub fn parse_tag(text: &str) -> Option<Tag> {
 }
 
 // The members with commas between, or - for the empty set.
-pub fn show_set(heap: Global, set: u16) -> Result<String, AllocError> {
+pub(crate) fn show_set(heap: Global, set: u16) -> Result<String, AllocError> {
     let mut text = String::new(heap);
     for k in 0..16u8 {
         if has(set, k) {
