@@ -1,0 +1,4 @@
+pub mod Invariants
+pub mod Keeps
+pub mod Moves
+pub mod Rows
