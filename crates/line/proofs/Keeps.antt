@@ -48,39 +48,39 @@ some-same e = cc
 pub none-some : {X : Type 0} {A : Type 0} (b : X) → _≡_ {A = Option X} None (Some b) → A
 none-some b e = let z : _≡_ {A = ℕ} 0 1 = cc in absurd (omega arith)
 
-put-here : {X : Type 0} (f : ℕ → X) (i : ℕ) (x : X) → put f i x i ≡ x
+pub put-here : {X : Type 0} (f : ℕ → X) (i : ℕ) (x : X) → put f i x i ≡ x
 put-here f i x = cond-true (eqb i i) x (f i) (eq-eqb i i refl)
 
-put-other : {X : Type 0} (f : ℕ → X) (i : ℕ) (x : X) (k : ℕ) → (k ≡ i → ⊥) → put f i x k ≡ f k
+pub put-other : {X : Type 0} (f : ℕ → X) (i : ℕ) (x : X) (k : ℕ) → (k ≡ i → ⊥) → put f i x k ≡ f k
 put-other f i x k ne = cond-false (eqb k i) x (f k) (ne-eqb k i ne)
 
-no-member : {A : Type 0} (k : ℕ) → Member k 0 → A
+pub no-member : {A : Type 0} (k : ℕ) → Member k 0 → A
 no-member k m = absurd (omega (arith, bit-high k 0 (pow-pos k)))
 
-upto-same : (t : Tag) → Upto t t
+pub upto-same : (t : Tag) → Upto t t
 upto-same t = (omega arith, λ e. omega arith)
 
 module _ {V : Type 0} (v : View V) where
   -- telegrams about a job that is still querying are no sets and no tooks
-  querying : (t : Telegram V) (k : TelegramKind V) (h g : Hand V) → h .stage ≡ Querying → KindFits v t k h → KindFits v t k g
+  pub querying : (t : Telegram V) (k : TelegramKind V) (h g : Hand V) → h .stage ≡ Querying → KindFits v t k h → KindFits v t k g
   querying t Query h g e x = tt
   querying t (Told p) h g e x = tt
   querying t (Set p) h g e x = absurd (subst (λ (st : Stage V). SetFits v st p) e x)
   querying t Took h g e x = absurd (subst (λ (st : Stage V). TookFits v (t .cabinet) st) e x)
 
-  like : (t : Telegram V) (k : TelegramKind V) (h g : Hand V) → h .stage ≡ g .stage → KindFits v t k h → KindFits v t k g
+  pub like : (t : Telegram V) (k : TelegramKind V) (h g : Hand V) → h .stage ≡ g .stage → KindFits v t k h → KindFits v t k g
   like t Query h g e x = tt
   like t (Told p) h g e x = tt
   like t (Set p) h g e x = subst (λ (st : Stage V). SetFits v st p) e x
   like t Took h g e x = subst (λ (st : Stage V). TookFits v (t .cabinet) st) e x
 
-  setting : (t : Telegram V) (k : TelegramKind V) (h g : Hand V) (p : Pair V) (a b a2 b2 : ℕ) → h .stage ≡ Setting p a b → g .stage ≡ Setting p a2 b2 → KindFits v t k h → KindFits v t k g
+  pub setting : (t : Telegram V) (k : TelegramKind V) (h g : Hand V) (p : Pair V) (a b a2 b2 : ℕ) → h .stage ≡ Setting p a b → g .stage ≡ Setting p a2 b2 → KindFits v t k h → KindFits v t k g
   setting t Query h g p a b a2 b2 e f x = tt
   setting t (Told u) h g p a b a2 b2 e f x = tt
   setting t (Set u) h g p a b a2 b2 e f x = subst (λ (st : Stage V). SetFits v st u) (sym f) (subst (λ (st : Stage V). SetFits v st u) e x)
   setting t Took h g p a b a2 b2 e f x = subst (λ (st : Stage V). TookFits v (t .cabinet) st) (sym f) (subst (λ (st : Stage V). TookFits v (t .cabinet) st) e x)
 
-  over : (t : Telegram V) (k : TelegramKind V) (g : Hand V) (p : Pair V) (a b : ℕ) → g .stage ≡ Ended p a b → KindFits v t k g
+  pub over : (t : Telegram V) (k : TelegramKind V) (g : Hand V) (p : Pair V) (a b : ℕ) → g .stage ≡ Ended p a b → KindFits v t k g
   over t Query g p a b e = tt
   over t (Told u) g p a b e = tt
   over t (Set u) g p a b e = subst (λ (st : Stage V). SetFits v st u) (sym e) tt

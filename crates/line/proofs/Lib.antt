@@ -1,3 +1,4 @@
+pub mod Deliveries
 pub mod Invariants
 pub mod Keeps
 pub mod Moves
