@@ -3,3 +3,4 @@ pub mod Invariants
 pub mod Keeps
 pub mod Moves
 pub mod Rows
+pub mod Tellings
