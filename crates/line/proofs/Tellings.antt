@@ -195,3 +195,73 @@ module _ {V : Type 0} (F : ℕ → Type 0) (share : (p q : ℕ) → F p → F q 
         let w = hold v s (at-stage h Spent) in
         let spent = keep F v inv s one in-line h e (last-of v s) (omega arith) (at-stage h Spent) refl refl refl tt (λ t m k. querying v t (t .kind) h (at-stage h Spent) stage k) in
         inv-note F w spent (spent-row v s (h .job)) (λ r j u eq. absurd (spent-not-tagged v s (h .job) r j u eq)) (λ r j u a b eq. absurd (spent-not-ended v s (h .job) r j u a b eq))
+
+    -- a read, as it is judged
+    module _ (line : (d : ℕ) → F d → (k : ℕ) → Member k d → k < size v) (few : size v ≤ 16) (work : h .work ≡ Read) where
+      small : q < 2 ^ 16
+      small = below 16 q (λ k mem. omega (arith, line q fq k mem))
+
+      told-at : (k : ℕ) (u : Pair V) → k < size v → v .answers s k ≡ Some u → told (told-tags v s) k ≡ u .tag
+      told-at k u low a =
+          getD-map-counting (λ c. tag-of (v .answers s c)) 0 (size v) k k (record { count = 0; owner = 0 }) low (zero-add k) ∙ ap tag-of a
+
+      pub keeps-one-trip : (tag : Tag) (strikes : ℕ) → Judged (told-tags v s) q F (OneTrip tag) strikes → (k : ℕ) (p : Pair V) → Member k q → v .answers s k ≡ Some p → p .tag ≡ tag → Inv (note (hold v s (at-stage h (Ended p 1 strikes))) (ended-row s (h .job) p 1 strikes)) F
+      keeps-one-trip tag strikes judged k p mem a is =
+          let law = lawful (told-tags v s) q F small share (OneTrip tag) strikes judged in
+          keeps-end F v inv s one in-line h e p 1 strikes (inv .answers s k p one a .0)
+          (subst (λ (y : Work V). Earned v s (h .job) y p) (sym work)
+            (λ i r j u row low.
+              let x = inv .ended i r j u row in
+              ⊎-elim
+              (λ same. x .guards k (subst (λ (d : ℕ). Member k d) (sym same) mem) .kept s h p one e a low)
+              (λ other.
+                let found = law .2 fq (x .quorum) (x .is-quorum) other in
+                let b = told-by (found .0) (found .2) in
+                let at : b .0 .tag ≡ p .tag = sym (told-at (found .0) (b .0) (line q fq (found .0) (found .2)) (b .1)) ∙ found .3 ∙ sym is in
+                subst (Upto (u .tag)) at (x .guards (found .0) (found .1) .kept s h (b .0) one e (b .1) low))
+              (cases-eq (x .quorum) q)))
+          q fq
+          (λ c m.
+            let b = told-by c m in
+            let first = subst (λ (z : Tag). Upto z (b .0 .tag)) (sym is) (subst (Upto tag) (told-at c (b .0) (line q fq c m) (b .1)) (law .1 c m)) in
+            tag-order .through (p .tag) (b .0 .tag) (replica v c .tag) first (inv .answers s c (b .0) one (b .1) .1))
+
+      pub keeps-second : (tag : Tag) (strikes : ℕ) → Judged (told-tags v s) q F (SecondTrip tag) strikes → (k : ℕ) (p : Pair V) → Member k q → v .answers s k ≡ Some p → p .tag ≡ tag → Inv (hold v s (at-stage h (Setting p strikes 0))) F
+      keeps-second tag strikes judged k p mem a is =
+          let g = at-stage h (Setting p strikes 0) in
+          keep F v inv s one in-line h e (last-of v s) (omega arith) g refl refl refl
+          (inv .answers s k p one a .0, (λ c m. no-member c m),
+            subst (λ (y : Work V). Earned v s (h .job) y p) (sym work)
+            (λ i r j u row low.
+              let b = above i r j u row low in
+              let most = subst (Upto (b .2 .0 .tag)) (sym is) (subst (λ (z : Tag). Upto z tag) (told-at (b .0) (b .2 .0) (line q fq (b .0) (b .1)) (b .2 .1)) (judged .1 (b .0) (b .1))) in
+              tag-order .through (u .tag) (b .2 .0 .tag) (p .tag) (b .2 .2) most))
+          (λ t m x. querying v t (t .kind) h g stage x)
+
+  -- Tooks: counted, and the job ends with a quorum of them.
+  module _ (v : View V) (inv : Inv v F) (t : Telegram V) (m : Among (v .bus) t) (in-line : t .station ≤ length (v .stations))
+      (h : Hand V) (e : hand-of v (t .station) ≡ Some h) (p : Pair V) (strikes took : ℕ) (stage : h .stage ≡ Setting p strikes took) (job : h .job ≡ t .job) (is : t .kind ≡ Took) where
+    first-station : 1 ≤ t .station
+    first-station = inv .bus t m .station
+
+    facts : StageFits v (t .station) h (Setting p strikes took)
+    facts = subst (λ (st : Stage V). StageFits v (t .station) h st) stage (inv .hands (t .station) h first-station e .1)
+
+    now-took : Upto (p .tag) (replica v (t .cabinet) .tag)
+    now-took =
+        subst (λ (st : Stage V). TookFits v (t .cabinet) st) stage (subst (λ (k : TelegramKind V). KindFits v t k h) is (inv .bus t m .fits h e job))
+
+    counted-all : (c : ℕ) → Member c (bitOr took (2 ^ t .cabinet)) → Upto (p .tag) (replica v c .tag)
+    counted-all c mem =
+        ⊎-elim (λ old. facts .1 c old) (λ at. subst (λ (d : ℕ). Upto (p .tag) (replica v d .tag)) (sym at) now-took) (with-cases took (t .cabinet) c mem)
+
+    pub keeps-counted : Inv (hold v (t .station) (at-stage h (Setting p strikes (bitOr took (2 ^ t .cabinet))))) F
+    keeps-counted =
+        let g = at-stage h (Setting p strikes (bitOr took (2 ^ t .cabinet))) in
+        keep F v inv (t .station) first-station in-line h e (last-of v (t .station)) (omega arith) g refl refl refl
+        (facts .0, counted-all, facts .2)
+        (λ u n k. setting v u (u .kind) h g p strikes took strikes (bitOr took (2 ^ t .cabinet)) stage refl k)
+
+    pub keeps-took : (q : ℕ) → F q → Inside q (bitOr took (2 ^ t .cabinet)) → Inv (note (hold v (t .station) (at-stage h (Ended p 2 strikes))) (ended-row (t .station) (h .job) p 2 strikes)) F
+    keeps-took q fq inside =
+        keeps-end F v inv (t .station) first-station in-line h e p 2 strikes (facts .0) (facts .2) q fq (λ c mem. counted-all c (inside c mem))
