@@ -3,4 +3,5 @@ pub mod Invariants
 pub mod Keeps
 pub mod Moves
 pub mod Rows
+pub mod Stepping
 pub mod Tellings

@@ -27,6 +27,13 @@ use Rattle.line.specs.declared.types.Work.the-variants.{Write, Read}
 use Rattle.line.specs.Lines.{View, hand-of, idle}
 use Rattle.line.specs.Steps.{Begins, Claims, Collects, Delivers, Doubles, GivesUp, Loses, Shelves}
 
+-- the laws of a quorum system of n cabinets
+pub record Laws (F : ℕ → Type 0) (n : ℕ) : Type 0 where
+  pub few : n ≤ 16
+  pub member : (q : ℕ) → F q → (k : ℕ) × Member k q
+  pub line : (q : ℕ) → F q → (k : ℕ) → Member k q → k < n
+  pub share : (p q : ℕ) → F p → F q → Share p q
+
 -- a call with its arguments and its answer
 pub data Event (V : Type 0) : Type 0 where
   began : ℕ → Work V → Result (ℕ × ℕ) Refusal → Event V
@@ -156,13 +163,6 @@ module _ {V : Type 0} where
           → (((x : Placed) → x .sort ≡ write → StandsBefore x y → ⊥) × (y .value ≡ first))
             ⊎ ((x : Placed) × (x .sort ≡ write) × StandsBefore x y × (y .value ≡ x .value)
               × ((z : Placed) → z .sort ≡ write → StandsBefore z y → (z .job ≡ x .job) ⊎ StandsBefore z x))
-
-  -- the laws of a quorum system of n cabinets
-  pub record Laws (F : ℕ → Type 0) (n : ℕ) : Type 0 where
-    pub few : n ≤ 16
-    pub member : (q : ℕ) → F q → (k : ℕ) × Member k q
-    pub line : (q : ℕ) → F q → (k : ℕ) → Member k q → k < n
-    pub share : (p q : ℕ) → F p → F q → Share p q
 
   -- the order of jobs of every run that follows an opening
   abbrev pub OrderOfJobs : (ℕ → Type 0) → First V → ℕ → ℕ → ℕ → ℕ → Type 0

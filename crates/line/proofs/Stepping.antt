@@ -1,0 +1,193 @@
+-- Every step keeps what holds of a line, and what it adds to the journal.
+use mathlib.Core.Path.{_≡_, _∙_, refl, sym, ap, subst}
+use mathlib.Core.Bool.{Bool, true, false, cond}
+use mathlib.Core.Logic.{_⊎_, inl, inr, ⊎-elim}
+use mathlib.Core.List.{List, [], _∷_, _++_, map}
+use Prim.Native.Nat.{ℕ, _+_, _-_, _^_, _≤_, _<_}
+use native.Mathlib.Omega.{arith}
+use native.Mathlib.Nat.{zero-add}
+use lib.Bits.{bitOr}
+use lib.Dec.{eqb}
+use lib.ListN.{length, getD, set}
+use Rattle.std.specs.Finite.{nth}
+use Rattle.std.specs.Holes.{removed}
+use Rattle.std.specs.Iters.{counting}
+use Rattle.std.specs.declared.option.Option.{Option}
+use Rattle.std.specs.declared.option.Option.the-variants.{Some, None}
+use Rattle.std.proofs.shelf.Counted.{getD-map-counting}
+use Rattle.std.proofs.shelf.Bits.{pow-pos}
+use Rattle.std.proofs.shelf.Lists.{length-set}
+use Rattle.std.proofs.shelf.Tests.{cases-eq, cond-true, cond-false, eq-eqb, ne-eqb}
+use Rattle.words.specs.declared.tag.Tag.{Tag}
+use Rattle.words.specs.Tags.{Before, Upto}
+use Rattle.words.proofs.TagOrders.{tag-order}
+use Rattle.telegrams.specs.declared.Pair.{Pair}
+use Rattle.telegrams.specs.declared.Telegram.{Telegram}
+use Rattle.telegrams.specs.declared.TelegramKind.{TelegramKind}
+use Rattle.telegrams.specs.declared.TelegramKind.the-variants.{Query, Told, Set, Took}
+use Rattle.quorums.specs.Sets.{Inside, Member, Picked, Share}
+use Rattle.quorums.proofs.Members.{below, bit-high, with-cases}
+use Rattle.views.specs.Views.{Judged, told}
+use Rattle.views.proofs.Laws.{lawful}
+use Rattle.views.specs.declared.Verdict.the-variants.{OneTrip, SecondTrip}
+use Rattle.line.specs.declared.types.Hand.{Hand}
+use Rattle.line.specs.declared.types.Row.{Row}
+use Rattle.line.specs.declared.types.Stage.{Stage}
+use Rattle.line.specs.declared.types.Stage.the-variants.{Querying, Setting, Ended, Spent}
+use Rattle.line.specs.declared.types.Station.{Station}
+use Rattle.line.specs.declared.types.Work.{Work}
+use Rattle.line.specs.declared.types.Work.the-variants.{Write, Read}
+use Rattle.std.specs.declared.result.Result.{Result}
+use Rattle.std.specs.declared.result.Result.the-variants.{Ok, Err}
+use Rattle.words.specs.declared.refusal.Refusal.{Refusal}
+use Rattle.views.specs.declared.Verdict.{Verdict}
+use Rattle.line.specs.declared.types.Delivered.{Delivered}
+use Rattle.line.specs.declared.types.Delivered.the-variants as answer
+use Rattle.line.specs.Runs.{Event, Laws, Step, began, claimed, collected, delivered, doubled, gave-up, lost, shelved}
+use Rattle.line.specs.Steps.{AtHand, AtStation, Begins, Chosen, Delivers, Fits, Handed, Reads, Second, Tags, Takes, Tells}
+use Rattle.line.specs.Lines.{View, at-stage, begin-row, change, ended-row, first-pair, given-row, hand-of, hold, last-of, note, put, replica, reply, send, size, spent-row, store, tag-of, tagged-row, to-all, told-tags, with-bus}
+use Rattle.line.proofs.Invariants.{AboveEnded, Among, Begun, Carries, Earned, EndedFits, EndedRow, Guard, Inv, KindFits, Known, SetFits, Sound, StageFits, TaggedFits, TaggedRow, TookFits}
+use Rattle.line.proofs.Moves.{Asked, New, here, inv-bus, inv-change, inv-note, nth-below, nth-cases, nth-kept, nth-last}
+use Rattle.line.proofs.Keeps.{free, keep, keeps-begin, like, no-member, none-some, off, off-and-on, over, put-here, put-other, querying, setting, some-same, upto-same}
+use Rattle.line.proofs.Deliveries.{keeps-passed, keeps-query, keeps-sets, keeps-stored}
+use Rattle.line.proofs.Tellings.{keeps-counted, keeps-one-trip, keeps-second, keeps-setting, keeps-spent, keeps-told, keeps-took, told-hand, told-held, told-view}
+use Rattle.line.proofs.Rows.{among-append, among-counted, among-removed, begin-not-ended, begin-not-tagged, ended-not-tagged, given-not-ended, given-not-tagged, nth-among, spent-not-ended, spent-not-tagged, tagged-not-ended}
+
+-- different answers
+code : Delivered → ℕ
+code answer.Answered = 0
+code answer.Kept = 1
+code answer.SecondTrip = 2
+code answer.Ended = 3
+code answer.Spent = 4
+code answer.Nothing = 5
+
+other-answer : {A : Type 0} (r : Result Delivered Refusal) (a b : Delivered) → r ≡ Ok a → (code a ≡ code b → ⊥) → r ≡ Ok b → A
+other-answer r a b e ne f = let same : a ≡ b = cc in absurd (ne (ap code same))
+
+refused-answer : {A : Type 0} (r : Result Delivered Refusal) (x : Refusal) (b : Delivered) → r ≡ Err x → r ≡ Ok b → A
+refused-answer r x b e f = let z : _≡_ {A = ℕ} 0 1 = cc in absurd (omega arith)
+
+module _ {V : Type 0} (F : ℕ → Type 0) (n : ℕ) (laws : Laws F n) where
+  -- the journal only grows
+  abbrev pub Grows : View V → View V → Type 0
+  Grows v w = (i : ℕ) (r : Row V) → nth (v .journal) i ≡ Some r → nth (w .journal) i ≡ Some r
+
+  -- what a step has to show of the line after it
+  pub record Good (v w : View V) : Type 0 where
+    pub inv : Inv w F
+    pub grows : Grows v w
+    pub size-kept : size w ≡ size v
+    pub first-kept : w .first ≡ v .first
+
+  -- what a delivery to a station's job has to show besides
+  abbrev pub Trip : View V → View V → Telegram V → Type 0
+  Trip v w t =
+      (h : Hand V) × (p : Pair V) × (a : ℕ) × (b : ℕ) × (hand-of w (t .station) ≡ Some h) × (h .stage ≡ Setting p a b) × (h .job ≡ t .job)
+      × ((h .work ≡ Read) ⊎ TaggedRow w (length (v .journal)) (t .station) (t .job) p)
+
+  abbrev pub End : View V → View V → Telegram V → Type 0
+  End v w t =
+      (h : Hand V) × (p : Pair V) × (a : ℕ) × (b : ℕ) × (hand-of w (t .station) ≡ Some h) × (h .stage ≡ Ended p a b) × (h .job ≡ t .job)
+      × EndedRow w (length (v .journal)) (t .station) (t .job) p
+
+  pub record Shown (v w : View V) (t : Telegram V) (r : Result Delivered Refusal) : Type 0 where
+    pub good : Good v w
+    pub trip : r ≡ Ok answer.SecondTrip → Trip v w t
+    pub end : r ≡ Ok answer.Ended → End v w t
+
+  module _ (v : View V) (inv : Inv v F) where
+    same-line : Good v v
+    same-line = record { inv = inv; grows = λ i r e. e; size-kept = refl; first-kept = refl }
+
+    -- a refusal leaves the line as found
+    refused : (w : View V) (t : Telegram V) (r : Result Delivered Refusal) (x : Refusal) → r ≡ Err x → w ≡ v → Shown v w t r
+    refused w t r x e same = record {
+      good = subst (Good v) (sym same) same-line;
+      trip = λ f. refused-answer r x answer.SecondTrip e f;
+      end = λ f. refused-answer r x answer.Ended e f;
+    }
+
+    -- an answer that begins no second trip and ends no job
+    plain : (w x : View V) (t : Telegram V) (r : Result Delivered Refusal) (a : Delivered) → (code a ≡ 2 → ⊥) → (code a ≡ 3 → ⊥) → r ≡ Ok a → w ≡ x → Inv x F → Grows v x → size x ≡ size v → x .first ≡ v .first → Shown v w t r
+    unfolding code
+    plain w x t r a no-trip no-end e same keeps grows long first = record {
+      good = subst (Good v) (sym same) (record { inv = keeps; grows = grows; size-kept = long; first-kept = first });
+      trip = λ f. other-answer r a answer.SecondTrip e no-trip f;
+      end = λ f. other-answer r a answer.Ended e no-end f;
+    }
+
+    module _ (place : ℕ) (t : Telegram V) (m : Among (v .bus) t) (line : Fits v t) (size-is : size v ≡ n) where
+      abbrev s : ℕ
+      s = t .station
+
+      one : 1 ≤ s
+      one = line .1 .0
+
+      nothing : (r : Result Delivered Refusal) (w : View V) → (r ≡ Ok answer.Nothing) × (w ≡ with-bus v (removed (v .bus) place)) → Shown v w t r
+      unfolding code
+      nothing r w x =
+          plain w (with-bus v (removed (v .bus) place)) t r answer.Nothing (λ e. omega arith) (λ e. omega arith) (x .0) (x .1) (off F v inv place) (λ i q e. e) refl refl
+
+      module _ (h : Hand V) (e : hand-of v s ≡ Some h) (job : h .job ≡ t .job) where
+        -- a telling that counts
+        module _ (p : Pair V) (stage : h .stage ≡ Querying) (is : t .kind ≡ Told p) where
+          abbrev g : Hand V
+          g = told-hand F (laws .share) (laws .member) v inv t m (line .1 .1) h e stage job p is
+
+          abbrev x : View V
+          x = told-view F (laws .share) (laws .member) v inv t m (line .1 .1) h e stage job p is
+
+          kept : Inv x F
+          kept = keeps-told F (laws .share) (laws .member) v inv t m (line .1 .1) h e stage job p is
+
+          held : hand-of x s ≡ Some g
+          held = told-held F (laws .share) (laws .member) v inv t m (line .1 .1) h e stage job p is
+
+          in-line : s ≤ length (x .stations)
+          in-line = subst (λ (k : ℕ). s ≤ k) (sym (length-set (v .stations) (s - 1) (record { last = last-of v s; hand = Some g }))) (line .1 .1)
+
+          line-x : (d : ℕ) → F d → (k : ℕ) → Member k d → k < size x
+          line-x d fd k mem = subst (λ (z : ℕ). k < z) (sym size-is) (laws .line d fd k mem)
+
+          few-x : size x ≤ 16
+          few-x = omega (arith, size-is, laws .few)
+
+          module _ (q : ℕ) (fq : F q) (inside : Inside q (g .told)) where
+            -- a second trip of a read
+            second : (work : h .work ≡ Read) (tag : Tag) (strikes : ℕ) → Judged (told-tags x s) q F (SecondTrip tag) strikes → (k : ℕ) (u : Pair V) → Member k q → x .answers s k ≡ Some u → u .tag ≡ tag → (r : Result Delivered Refusal) (w : View V) → Second F v (with-bus v (removed (v .bus) place)) t (with-bus x (removed (v .bus) place)) g u strikes r w → Shown v w t r
+            unfolding code
+            second work tag strikes judged k u mem a at r w =
+                ⊎-elim
+                (λ y.
+                  let z = hold x s (at-stage g (Setting u strikes 0)) in
+                  let set-inv = keeps-second F (laws .share) (laws .member) x kept s one in-line g held refl q fq inside line-x few-x work tag strikes judged k u mem a at in
+                  let set-held : hand-of z s ≡ Some (at-stage g (Setting u strikes 0)) =
+                      ap (λ (st : Station V). st .hand) (here F x kept s one in-line (last-of x s) (Some (at-stage g (Setting u strikes 0))) (x .answers s)) in
+                  let sent = keeps-sets F z set-inv place s one (at-stage g (Setting u strikes 0)) u strikes 0 set-held refl in
+                  record {
+                    good = subst (Good v) (sym (y .1 .1)) (record { inv = sent; grows = λ i b f. f; size-kept = refl; first-kept = refl });
+                    trip = λ f.
+                        subst (λ (b : View V). Trip v b t) (sym (y .1 .1)) (at-stage g (Setting u strikes 0), u, strikes, 0, set-held, refl, job, inl work);
+                    end = λ f. other-answer r answer.SecondTrip answer.Ended (y .1 .0) (λ c. omega arith) f;
+                  })
+                (λ y. refused w t r (y .1 .0) (y .1 .1) (y .1 .3))
+
+            reads : (work : h .work ≡ Read) (verdict : Verdict) (strikes : ℕ) → Judged (told-tags x s) q F verdict strikes → (r : Result Delivered Refusal) (w : View V) → Reads F v (with-bus v (removed (v .bus) place)) t (with-bus x (removed (v .bus) place)) g q verdict strikes r w → Shown v w t r
+            unfolding code
+            reads work (OneTrip tag) strikes judged r w y =
+                let u = y .0 in
+                let low = y .1 in
+                let k = at-stage g (Ended u 1 strikes) in
+                let z = note (hold x s k) (ended-row s (g .job) u 1 strikes) in
+                let ended = keeps-one-trip F (laws .share) (laws .member) x kept s one in-line g held refl q fq inside line-x few-x work tag strikes judged (low .0) u (low .1) (low .2) (low .3) in
+                let end-held : hand-of z s ≡ Some k = ap (λ (st : Station V). st .hand) (here F x kept s one in-line (last-of x s) (Some k) (x .answers s)) in
+                let row : EndedRow z (length (v .journal)) s (t .job) u =
+                    subst (λ (j : ℕ). EndedRow z (length (v .journal)) s j u) job (1, strikes, nth-last (v .journal) (ended-row s (g .job) u 1 strikes)) in
+                record {
+                  good = subst (Good v) (sym (y .2 .1)) (record { inv = off F z ended place; grows = λ i b f. nth-kept (v .journal) (ended-row s (g .job) u 1 strikes) i b f; size-kept = refl; first-kept = refl });
+                  trip = λ f. other-answer r answer.Ended answer.SecondTrip (y .2 .0) (λ c. omega arith) f;
+                  end = λ f. subst (λ (b : View V). End v b t) (sym (y .2 .1)) (k, u, 1, strikes, end-held, refl, job, row);
+                }
+            reads work (SecondTrip tag) strikes judged r w y =
+                second work tag strikes judged (y .1 .0) (y .0) (y .1 .1) (y .1 .2) (y .1 .3) r w (y .2)
