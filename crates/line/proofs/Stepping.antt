@@ -50,7 +50,7 @@ use Rattle.line.proofs.Invariants.{AboveEnded, Among, Begun, Carries, Earned, 
 use Rattle.line.proofs.Moves.{Asked, New, here, inv-bus, inv-change, inv-note, nth-below, nth-cases, nth-kept, nth-last}
 use Rattle.line.proofs.Keeps.{free, keep, keeps-begin, like, no-member, none-some, off, off-and-on, over, put-here, put-other, querying, setting, some-same, upto-same}
 use Rattle.line.proofs.Deliveries.{keeps-passed, keeps-query, keeps-sets, keeps-stored}
-use Rattle.line.proofs.Tellings.{keeps-counted, keeps-one-trip, keeps-second, keeps-setting, keeps-spent, keeps-told, keeps-took, told-hand, told-held, told-view}
+use Rattle.line.proofs.Tellings.{keeps-counted, keeps-one-trip, keeps-second, keeps-setting, keeps-spent, keeps-tag, keeps-told, keeps-took, told-hand, told-held, told-view}
 use Rattle.line.proofs.Rows.{among-append, among-counted, among-removed, begin-not-ended, begin-not-tagged, ended-not-tagged, given-not-ended, given-not-tagged, nth-among, spent-not-ended, spent-not-tagged, tagged-not-ended}
 
 -- different answers
@@ -191,3 +191,112 @@ module _ {V : Type 0} (F : ℕ → Type 0) (n : ℕ) (laws : Laws F n) where
                 }
             reads work (SecondTrip tag) strikes judged r w y =
                 second work tag strikes judged (y .1 .0) (y .0) (y .1 .1) (y .1 .2) (y .1 .3) r w (y .2)
+
+            -- a write gets its tag, or the counts have run out
+            tags : (y : V) → h .work ≡ Write y → (r : Result Delivered Refusal) (w : View V) → Tags F v (with-bus v (removed (v .bus) place)) t (with-bus x (removed (v .bus) place)) g y q r w → Shown v w t r
+            unfolding code
+            tags y work r w (c, greatest, inl out) =
+                let z = note (hold x s (at-stage g Spent)) (spent-row x s (g .job)) in
+                plain w (with-bus z (removed (v .bus) place)) t r answer.Spent (λ e. omega arith) (λ e. omega arith) (out .1 .0) (out .1 .1)
+                (off F z (keeps-spent F (laws .share) (laws .member) x kept s one in-line g held refl q fq inside) place)
+                (λ i b f. nth-kept (v .journal) (spent-row x s (g .job)) i b f) refl refl
+            tags y work r w (c, greatest, inr tag) =
+                let u : Pair V = record { tag = record { count = c + 1; owner = s }; value = y } in
+                let row = tagged-row s (g .job) u in
+                let b = note (change x s (c + 1) (Some g) (x .answers s)) row in
+                let k = at-stage g (Setting u 0 0) in
+                let z = hold b s k in
+                let most : (i : ℕ) (a : Pair V) → Member i q → x .answers s i ≡ Some a → a .tag .count ≤ c = greatest .1 in
+                ⊎-elim
+                (λ yes.
+                  let set-inv = keeps-setting F (laws .share) (laws .member) x kept s one in-line g held refl q fq inside y work c (greatest .0) most in
+                  let b-inv = keeps-tag F (laws .share) (laws .member) x kept s one in-line g held refl q fq inside y work c (greatest .0) most in
+                  let b-line : s ≤ length (b .stations) = subst (λ (i : ℕ). s ≤ i) (sym (length-set (x .stations) (s - 1) (record { last = c + 1; hand = Some g }))) in-line in
+                  let set-held : hand-of z s ≡ Some k = ap (λ (st : Station V). st .hand) (here F b b-inv s one b-line (last-of b s) (Some k) (b .answers s)) in
+                  let sent = keeps-sets F z set-inv place s one k u 0 0 set-held refl in
+                  let tagged : TaggedRow z (length (v .journal)) s (t .job) u =
+                      subst (λ (j : ℕ). TaggedRow z (length (v .journal)) s j u) job (nth-last (v .journal) row) in
+                  record {
+                    good = subst (Good v) (sym (yes .1 .1)) (record { inv = sent; grows = λ i a f. nth-kept (v .journal) row i a f; size-kept = refl; first-kept = refl });
+                    trip = λ f. subst (λ (a : View V). Trip v a t) (sym (yes .1 .1)) (k, u, 0, 0, set-held, refl, job, inr tagged);
+                    end = λ f. other-answer r answer.SecondTrip answer.Ended (yes .1 .0) (λ e. omega arith) f;
+                  })
+                (λ full. refused w t r (full .1 .0) (full .1 .1) (full .1 .3))
+                (tag .1)
+
+            chosen : (work : Work V) → h .work ≡ work → (r : Result Delivered Refusal) (w : View V) → Chosen F v (with-bus v (removed (v .bus) place)) t (with-bus x (removed (v .bus) place)) g q work r w → Shown v w t r
+            chosen (Write y) work r w c = tags y work r w c
+            chosen Read work r w c = reads work (c .0) (c .1) (c .2) r w (c .3)
+
+          tells : (r : Result Delivered Refusal) (w : View V) → Tells F v (with-bus v (removed (v .bus) place)) t h p r w → Shown v w t r
+          unfolding code
+          tells r w =
+              ⊎-elim
+              (λ y.
+                plain w (with-bus x (removed (v .bus) place)) t r answer.Kept (λ e. omega arith) (λ e. omega arith) (y .1 .0) (y .1 .1)
+                (off F x kept place) (λ i b f. f) refl refl)
+              (λ y. chosen (y .0) (y .1 .0) (y .1 .1) (h .work) refl r w (y .2))
+
+        -- a took that counts
+        takes : (p : Pair V) (strikes took : ℕ) → h .stage ≡ Setting p strikes took → t .kind ≡ Took → (r : Result Delivered Refusal) (w : View V) → Takes F v (with-bus v (removed (v .bus) place)) t h p strikes took r w → Shown v w t r
+        unfolding code
+        takes p strikes took stage is r w =
+            ⊎-elim
+            (λ y.
+              let z = hold v s (at-stage h (Setting p strikes (bitOr took (2 ^ t .cabinet)))) in
+              plain w (with-bus z (removed (v .bus) place)) t r answer.Kept (λ e. omega arith) (λ e. omega arith) (y .1 .0) (y .1 .1)
+              (off F z (keeps-counted F (laws .share) (laws .member) v inv t m (line .1 .1) h e p strikes took stage job is) place) (λ i b f. f) refl refl)
+            (λ y.
+              let k = at-stage h (Ended p 2 strikes) in
+              let row = ended-row s (h .job) p 2 strikes in
+              let z = note (hold v s k) row in
+              let ended = keeps-took F (laws .share) (laws .member) v inv t m (line .1 .1) h e p strikes took stage job is (y .0) (y .1 .0) (y .1 .1) in
+              let end-held : hand-of z s ≡ Some k = ap (λ (st : Station V). st .hand) (here F v inv s one (line .1 .1) (last-of v s) (Some k) (v .answers s)) in
+              let shown : EndedRow z (length (v .journal)) s (t .job) p =
+                  subst (λ (j : ℕ). EndedRow z (length (v .journal)) s j p) job (2, strikes, nth-last (v .journal) row) in
+              record {
+                good = subst (Good v) (sym (y .2 .1)) (record { inv = off F z ended place; grows = λ i b f. nth-kept (v .journal) row i b f; size-kept = refl; first-kept = refl });
+                trip = λ f. other-answer r answer.Ended answer.SecondTrip (y .2 .0) (λ c. omega arith) f;
+                end = λ f. subst (λ (b : View V). End v b t) (sym (y .2 .1)) (k, p, 2, strikes, end-held, refl, job, shown);
+              })
+
+      at-station : (h : Hand V) (e : hand-of v s ≡ Some h) (st : Stage V) → h .stage ≡ st → (k : TelegramKind V) → t .kind ≡ k → (r : Result Delivered Refusal) (w : View V) → AtStation F v (with-bus v (removed (v .bus) place)) t h st k r w → Shown v w t r
+      at-station h e Querying stage (Told p) is r w = ⊎-elim (λ y. tells h e (y .0) p stage is r w (y .2)) (λ y. nothing r w (y .1))
+      at-station h e (Setting p strikes took) stage Took is r w = ⊎-elim (λ y. takes h e (y .0) p strikes took stage is r w (y .2)) (λ y. nothing r w (y .1))
+      at-station h e Querying stage Query is r w = λ y. nothing r w y
+      at-station h e Querying stage (Set p) is r w = λ y. nothing r w y
+      at-station h e Querying stage Took is r w = λ y. nothing r w y
+      at-station h e (Setting p strikes took) stage Query is r w = λ y. nothing r w y
+      at-station h e (Setting p strikes took) stage (Told u) is r w = λ y. nothing r w y
+      at-station h e (Setting p strikes took) stage (Set u) is r w = λ y. nothing r w y
+      at-station h e (Ended p trips strikes) stage Query is r w = λ y. nothing r w y
+      at-station h e (Ended p trips strikes) stage (Told u) is r w = λ y. nothing r w y
+      at-station h e (Ended p trips strikes) stage (Set u) is r w = λ y. nothing r w y
+      at-station h e (Ended p trips strikes) stage Took is r w = λ y. nothing r w y
+      at-station h e Spent stage Query is r w = λ y. nothing r w y
+      at-station h e Spent stage (Told u) is r w = λ y. nothing r w y
+      at-station h e Spent stage (Set u) is r w = λ y. nothing r w y
+      at-station h e Spent stage Took is r w = λ y. nothing r w y
+
+      at-hand : (hand : Option (Hand V)) → hand-of v s ≡ hand → (r : Result Delivered Refusal) (w : View V) → AtHand F v (with-bus v (removed (v .bus) place)) t hand r w → Shown v w t r
+      at-hand None e r w y = nothing r w y
+      at-hand (Some h) e r w y = at-station h e (h .stage) refl (t .kind) refl r w y
+
+      handed : (k : TelegramKind V) → t .kind ≡ k → (r : Result Delivered Refusal) (w : View V) → Handed F v (with-bus v (removed (v .bus) place)) t k r w → Shown v w t r
+      unfolding code
+      handed Query is r w y =
+          plain w (send (with-bus v (removed (v .bus) place)) (reply t (Told (replica v (t .cabinet))) ∷ [])) t r answer.Answered (λ e. omega arith) (λ e. omega arith) (y .0) (y .1)
+          (keeps-query F v inv place t m) (λ i b f. f) refl refl
+      handed (Set p) is r w y =
+          ⊎-elim
+          (λ later.
+            plain w (send (store (with-bus v (removed (v .bus) place)) (t .cabinet) p) (reply t Took ∷ [])) t r answer.Answered (λ e. omega arith) (λ e. omega arith) (y .0)
+            (y .1 .2 ∙ ap (λ (z : View V). send z (reply t Took ∷ [])) (later .1))
+            (keeps-stored F v inv place t m p is (later .0) (line .0)) (λ i b f. f) (length-set (v .replicas) (t .cabinet) p) refl)
+          (λ passed.
+            plain w (send (with-bus v (removed (v .bus) place)) (reply t Took ∷ [])) t r answer.Answered (λ e. omega arith) (λ e. omega arith) (y .0)
+            (y .1 .2 ∙ ap (λ (z : View V). send z (reply t Took ∷ [])) (passed .1))
+            (keeps-passed F v inv place t m p is (passed .0)) (λ i b f. f) refl refl)
+          (y .1 .1)
+      handed (Told p) is r w y = at-hand (hand-of v s) refl r w y
+      handed Took is r w y = at-hand (hand-of v s) refl r w y
