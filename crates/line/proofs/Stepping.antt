@@ -44,8 +44,9 @@ use Rattle.views.specs.declared.Verdict.{Verdict}
 use Rattle.line.specs.declared.types.Delivered.{Delivered}
 use Rattle.line.specs.declared.types.Delivered.the-variants as answer
 use Rattle.line.specs.Runs.{Event, Laws, Step, began, claimed, collected, delivered, doubled, gave-up, lost, shelved}
-use Rattle.line.specs.Steps.{AtHand, AtStation, Begins, Chosen, Delivers, Fits, Handed, Reads, Second, Tags, Takes, Tells}
-use Rattle.line.specs.Lines.{View, at-stage, begin-row, change, ended-row, first-pair, given-row, hand-of, hold, last-of, note, put, replica, reply, send, size, spent-row, store, tag-of, tagged-row, to-all, told-tags, with-bus}
+use Rattle.line.specs.declared.types.Collected.{Collected}
+use Rattle.line.specs.Steps.{AtHand, AtStation, Begins, Chosen, Claims, Collects, Delivers, Doubles, Fits, GivesUp, Handed, Loses, Reads, Second, Shelves, Tags, Takes, Tells, begun, with-shelf}
+use Rattle.line.specs.Lines.{IsStation, View, at-stage, begin-row, change, ended-row, first-pair, given-row, hand-of, hold, last-of, note, put, replica, reply, send, size, spent-row, store, tag-of, tagged-row, to-all, told-tags, with-bus}
 use Rattle.line.proofs.Invariants.{AboveEnded, Among, Begun, Carries, Earned, EndedFits, EndedRow, Guard, Inv, KindFits, Known, SetFits, Sound, StageFits, TaggedFits, TaggedRow, TookFits}
 use Rattle.line.proofs.Moves.{Asked, New, here, inv-bus, inv-change, inv-note, nth-below, nth-cases, nth-kept, nth-last}
 use Rattle.line.proofs.Keeps.{free, keep, keeps-begin, like, no-member, none-some, off, off-and-on, over, put-here, put-other, querying, setting, some-same, upto-same}
@@ -67,6 +68,12 @@ other-answer r a b e ne f = let same : a ≡ b = cc in absurd (ne (ap code same)
 
 refused-answer : {A : Type 0} (r : Result Delivered Refusal) (x : Refusal) (b : Delivered) → r ≡ Err x → r ≡ Ok b → A
 refused-answer r x b e f = let z : _≡_ {A = ℕ} 0 1 = cc in absurd (omega arith)
+
+begin-refused : (r : Result (ℕ × ℕ) Refusal) (x : Refusal) (y : ℕ × ℕ) → r ≡ Err x → r ≡ Ok y → _≡_ {A = ℕ} 0 1
+begin-refused r x y e f = cc
+
+begin-number : (r : Result (ℕ × ℕ) Refusal) (x y : ℕ × ℕ) → r ≡ Ok x → r ≡ Ok y → x .1 ≡ y .1
+begin-number r x y e f = let same : x ≡ y = cc in ap (λ (z : ℕ × ℕ). z .1) same
 
 module _ {V : Type 0} (F : ℕ → Type 0) (n : ℕ) (laws : Laws F n) where
   -- the journal only grows
@@ -300,3 +307,94 @@ module _ {V : Type 0} (F : ℕ → Type 0) (n : ℕ) (laws : Laws F n) where
           (y .1 .1)
       handed (Told p) is r w y = at-hand (hand-of v s) refl r w y
       handed Took is r w y = at-hand (hand-of v s) refl r w y
+
+  -- the calls besides deliver
+  module _ (v : View V) (inv : Inv v F) (size-is : size v ≡ n) where
+    changed : (w x : View V) → w ≡ x → Inv x F → Grows v x → size x ≡ size v → x .first ≡ v .first → Good v w
+    changed w x same keeps grows long first = subst (Good v) (sym same) (record { inv = keeps; grows = grows; size-kept = long; first-kept = first })
+
+    unmoved : (w : View V) → w ≡ v → Good v w
+    unmoved w same = subst (Good v) (sym same) (same-line v inv)
+
+    pub begin-good : (s : ℕ) (work : Work V) (r : Result (ℕ × ℕ) Refusal) (w : View V) → Begins v s work r w → Good v w
+    begin-good s work r w (inl x) = unmoved w (x .1 .3)
+    begin-good s work r w (inr (inl x)) = unmoved w (x .1 .1 .3)
+    begin-good s work r w (inr (inr (inl x))) = unmoved w (x .2 .1 .3)
+    begin-good s work r w (inr (inr (inr (inl x)))) = unmoved w (x .3 .1 .3)
+    begin-good s work r w (inr (inr (inr (inr x)))) =
+        changed w _ (x .5) (keeps-begin F v inv s (x .0 .0) (x .0 .1) work) (λ i b f. nth-kept (v .journal) (begin-row v s (length (v .journal)) work) i b f) refl refl
+
+    pub lose-good : (place : ℕ) (r : Result (Unit {0}) Refusal) (w : View V) → Loses v place r w → Good v w
+    lose-good place r w (inl x) = unmoved w (x .1 .3)
+    lose-good place r w (inr x) = changed w _ (x .2) (off F v inv place) (λ i b f. f) refl refl
+
+    pub double-good : (place : ℕ) (r : Result (Unit {0}) Refusal) (w : View V) → Doubles v place r w → Good v w
+    double-good place r w (inl x) = unmoved w (x .1 .3)
+    double-good place r w (inr (inl x)) = unmoved w (x .3 .3)
+    double-good place r w (inr (inr x)) =
+        changed w _ (x .4)
+        (inv-bus F v inv (v .bus ++ (x .0 ∷ []))
+          (λ u n. ⊎-elim inl (λ y. ⊎-elim (λ e. inl (subst (Among (v .bus)) e (nth-among (v .bus) place (x .0) (x .1)))) (λ none. absurd none) y) (among-append (v .bus) (x .0 ∷ []) u n)))
+        (λ i b f. f) refl refl
+
+    pub collect-good : (s job : ℕ) (r : Result (Collected V) Refusal) (w : View V) → Collects v s job r w → Good v w
+    collect-good s job r w (inl x) = unmoved w (x .1 .3)
+    collect-good s job r w (inr (inl x)) = unmoved w (x .3 .3)
+    collect-good s job r w (inr (inr x)) = changed w _ (x .3) (free F v inv s (x .1 .0 .0) (x .1 .0 .1) (x .0) (x .1 .1)) (λ i b f. f) refl refl
+
+    pub give-up-good : (s job : ℕ) (r : Result (Unit {0}) Refusal) (w : View V) → GivesUp v s job r w → Good v w
+    give-up-good s job r w (inl x) = unmoved w (x .1 .3)
+    give-up-good s job r w (inr (inl x)) =
+        let row = given-row v s job in
+        let noted = inv-note F v inv row (λ a j u e. absurd (given-not-tagged v s job a j u e)) (λ a j u b c e. absurd (given-not-ended v s job a j u b c e)) in
+        changed w _ (x .4) (free F (note v row) noted s (x .1 .0 .0) (x .1 .0 .1) (x .0) (x .1 .1)) (λ i b f. nth-kept (v .journal) row i b f) refl refl
+    give-up-good s job r w (inr (inr x)) = changed w _ (x .4) (free F v inv s (x .1 .0 .0) (x .1 .0 .1) (x .0) (x .1 .1)) (λ i b f. f) refl refl
+
+    shelf : (s : ℕ) (h : Hand V) (b : Bool) → IsStation v s → hand-of v s ≡ Some h → Inv (hold v s (with-shelf h b)) F
+    shelf s h b line e =
+        keep F v inv s (line .0) (line .1) h e (last-of v s) (omega arith) (with-shelf h b) refl refl refl (inv .hands s h (line .0) e .1)
+        (λ t m k. like v t (t .kind) h (with-shelf h b) refl k)
+
+    pub shelve-good : (s job : ℕ) (r : Result (Unit {0}) Refusal) (w : View V) → Shelves v s job r w → Good v w
+    shelve-good s job r w (inl x) = unmoved w (x .1 .3)
+    shelve-good s job r w (inr x) = changed w _ (x .3) (shelf s (x .0) true (x .1 .0) (x .1 .1)) (λ i b f. f) refl refl
+
+    pub claim-good : (s : ℕ) (r : Result (ℕ × ℕ) Refusal) (w : View V) → Claims v s r w → Good v w
+    claim-good s r w (inl x) = unmoved w (x .1 .3)
+    claim-good s r w (inr (inl x)) = unmoved w (x .1 .1 .3)
+    claim-good s r w (inr (inr x)) = changed w _ (x .1 .3) (shelf s (x .1 .0) false (x .0) (x .1 .1 .0)) (λ i b f. f) refl refl
+
+    -- a delivery, of the telegram at its place
+    pub deliver-shown : (place : ℕ) (r : Result Delivered Refusal) (w : View V) → Delivers F v place r w → (t : Telegram V) → nth (v .bus) place ≡ Some t → Shown v w t r
+    deliver-shown place r w (inl x) t at = refused v inv w t r (x .1 .0) (x .1 .1) (x .1 .3)
+    deliver-shown place r w (inr (inl x)) t at = refused v inv w t r (x .3 .0) (x .3 .1) (x .3 .3)
+    deliver-shown place r w (inr (inr x)) t at =
+        let u = x .0 in
+        subst (λ (z : Telegram V). Shown v w z r) (some-same (sym (x .1) ∙ at))
+        (handed v inv place u (nth-among (v .bus) place u (x .1)) (x .2) size-is (u .kind) refl r w (x .3))
+
+    deliver-good : (place : ℕ) (r : Result Delivered Refusal) (w : View V) → Delivers F v place r w → Good v w
+    deliver-good place r w (inl x) = unmoved w (x .1 .3)
+    deliver-good place r w (inr (inl x)) = unmoved w (x .3 .3)
+    deliver-good place r w (inr (inr x)) = deliver-shown place r w (inr (inr x)) (x .0) (x .1) .good
+
+    pub step-good : (e : Event V) (w : View V) → Step F v e w → Good v w
+    step-good (began s work r) w st = begin-good s work r w st
+    step-good (delivered place r) w st = deliver-good place r w st
+    step-good (lost place r) w st = lose-good place r w st
+    step-good (doubled place r) w st = double-good place r w st
+    step-good (collected s job r) w st = collect-good s job r w st
+    step-good (gave-up s job r) w st = give-up-good s job r w st
+    step-good (shelved s job r) w st = shelve-good s job r w st
+    step-good (claimed s r) w st = claim-good s r w st
+
+    -- a begin that hands out a ticket
+    pub begin-shown : (s : ℕ) (work : Work V) (r : Result (ℕ × ℕ) Refusal) (w : View V) → Begins v s work r w → (job : ℕ) → r ≡ Ok (s, job) → Begun w s job work × (job ≡ length (v .journal)) × (1 ≤ s)
+    begin-shown s work r w (inl x) job ok = let z : _≡_ {A = ℕ} 0 1 = begin-refused r (x .1 .0) (s, job) (x .1 .1) ok in absurd (omega arith)
+    begin-shown s work r w (inr (inl x)) job ok = let z : _≡_ {A = ℕ} 0 1 = begin-refused r (x .1 .1 .0) (s, job) (x .1 .1 .1) ok in absurd (omega arith)
+    begin-shown s work r w (inr (inr (inl x))) job ok = let z : _≡_ {A = ℕ} 0 1 = begin-refused r (x .2 .1 .0) (s, job) (x .2 .1 .1) ok in absurd (omega arith)
+    begin-shown s work r w (inr (inr (inr (inl x)))) job ok = let z : _≡_ {A = ℕ} 0 1 = begin-refused r (x .3 .1 .0) (s, job) (x .3 .1 .1) ok in absurd (omega arith)
+    begin-shown s work r w (inr (inr (inr (inr x)))) job ok =
+        let number : length (v .journal) ≡ job = begin-number r (s, length (v .journal)) (s, job) (x .4) ok in
+        let row : Begun (begun v s work) s (length (v .journal)) work = nth-last (v .journal) (begin-row v s (length (v .journal)) work) in
+        (subst (λ (z : View V). Begun z s job work) (sym (x .5)) (subst (λ (j : ℕ). Begun (begun v s work) s j work) number row), sym number, x .0 .0)
