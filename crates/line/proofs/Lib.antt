@@ -3,6 +3,7 @@ pub mod Invariants
 pub mod Keeps
 pub mod Moves
 pub mod Onces
+pub mod Order
 pub mod Rows
 pub mod Stepping
 pub mod Tellings
