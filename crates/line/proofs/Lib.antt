@@ -5,5 +5,6 @@ pub mod Moves
 pub mod Onces
 pub mod Order
 pub mod Rows
+pub mod Sources
 pub mod Stepping
 pub mod Tellings

@@ -91,3 +91,33 @@ module _ {V : Type 0} where
   pub ended-not-tagged : (s job : ℕ) (u : Pair V) (a b r j : ℕ) (p : Pair V) → ended-row s job u a b ≡ tagged-row r j p → ⊥
   unfolding kind-number
   ended-not-tagged s job u a b r j p e = omega (arith, kinds _ _ e)
+
+  pub begin-not-spent : (v : View V) (s job : ℕ) (work : Work V) (z : View V) (r j : ℕ) → begin-row v s job work ≡ spent-row z r j → ⊥
+  unfolding kind-number
+  begin-not-spent v s job (Write x) z r j e = omega (arith, kinds _ _ e)
+  begin-not-spent v s job Read z r j e = omega (arith, kinds _ _ e)
+
+  pub begin-not-given : (v : View V) (s job : ℕ) (work : Work V) (z : View V) (r j : ℕ) → begin-row v s job work ≡ given-row z r j → ⊥
+  unfolding kind-number
+  begin-not-given v s job (Write x) z r j e = omega (arith, kinds _ _ e)
+  begin-not-given v s job Read z r j e = omega (arith, kinds _ _ e)
+
+  -- a begin row tells station, job and work
+  pub begin-station : (v : View V) (s r job j : ℕ) (a b : Work V) → begin-row v s job a ≡ begin-row v r j b → s ≡ r
+  begin-station v s r job j (Write x) (Write y) e = ap (λ (z : Row V). z .station) e
+  begin-station v s r job j (Write x) Read e = ap (λ (z : Row V). z .station) e
+  begin-station v s r job j Read (Write y) e = ap (λ (z : Row V). z .station) e
+  begin-station v s r job j Read Read e = ap (λ (z : Row V). z .station) e
+
+  pub begin-job : (v : View V) (s r job j : ℕ) (a b : Work V) → begin-row v s job a ≡ begin-row v r j b → job ≡ j
+  begin-job v s r job j (Write x) (Write y) e = ap (λ (z : Row V). z .job) e
+  begin-job v s r job j (Write x) Read e = ap (λ (z : Row V). z .job) e
+  begin-job v s r job j Read (Write y) e = ap (λ (z : Row V). z .job) e
+  begin-job v s r job j Read Read e = ap (λ (z : Row V). z .job) e
+
+  pub begin-work : (v : View V) (s r job j : ℕ) (a b : Work V) → begin-row v s job a ≡ begin-row v r j b → a ≡ b
+  unfolding kind-number
+  begin-work v s r job j (Write x) (Write y) e = ap (λ (z : Row V). Write (z .value)) e
+  begin-work v s r job j (Write x) Read e = absurd (omega (arith, kinds _ _ e))
+  begin-work v s r job j Read (Write y) e = absurd (omega (arith, kinds _ _ e))
+  begin-work v s r job j Read Read e = refl
