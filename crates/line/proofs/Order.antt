@@ -51,12 +51,13 @@ use Rattle.line.specs.declared.types.Collected.{Collected}
 use Rattle.line.specs.Steps.{AtHand, AtStation, Begins, Chosen, Claims, Collects, Delivers, Doubles, Fits, GivesUp, Handed, Loses, Reads, Second, Shelves, Tags, Takes, Tells, begun, with-shelf}
 use Rattle.line.specs.Lines.{IsStation, View, at-stage, begin-row, change, ended-row, first-pair, given-row, hand-of, hold, last-of, note, put, replica, reply, send, size, spent-row, store, tag-of, tagged-row, to-all, told-tags, with-bus}
 use Rattle.line.proofs.Invariants.{AboveEnded, Among, Begun, Carries, Earned, EndedFits, EndedRow, Guard, Inv, KindFits, Known, SetFits, Sound, StageFits, TaggedFits, TaggedRow, TookFits}
-use Rattle.line.proofs.Rows.{among-append, among-counted, among-removed, begin-not-ended, begin-not-tagged, ended-not-tagged, given-not-ended, given-not-tagged, nth-among, spent-not-ended, spent-not-tagged, tagged-not-ended}
+use Rattle.line.proofs.Rows.{begin-work, among-append, among-counted, among-removed, begin-not-ended, begin-not-tagged, ended-not-tagged, given-not-ended, given-not-tagged, nth-among, spent-not-ended, spent-not-tagged, tagged-not-ended}
 
 use Rattle.line.specs.Lines.{idle, station-at}
 use Rattle.line.proofs.Keeps.{none-some, some-same}
 use Rattle.line.proofs.Moves.{nth-below}
 use Rattle.line.proofs.Onces.{Once, step-once}
+use Rattle.line.proofs.Sources.{step-rows}
 use Rattle.line.proofs.Stepping.{Good, Grows, begin-shown, deliver-shown, step-good}
 
 setting-pair : {V : Type 0} (st : Stage V) (p u : Pair V) (a b c d : ℕ) → st ≡ Setting p a b → st ≡ Setting u c d → p ≡ u
@@ -210,3 +211,158 @@ module _ {V : Type 0} (F : ℕ → Type 0) (n : ℕ) (laws : Laws F n) (first : 
             (subst (λ (j : ℕ). TaggedRow (x .after) (length (x .before .journal)) s j (shown .1)) (d .5)
               (subst (λ (r : ℕ). TaggedRow (x .after) (length (x .before .journal)) r (d .1 .job) (shown .1)) (d .4) tagged))))
         (shown .7)
+
+  -- rows come from moments
+  found-tag : {ms : List (Moment V)} {v : View V} → Run F start ms v → (k s job : ℕ) (p : Pair V) → TaggedRow v k s job p → (t : ℕ) × (x : Moment V) × AtTime ms t x × TripsAt x s job p
+  found-tag none k s job p row = none-some _ row
+  found-tag (more {ms = ms} {v = v} {w = w} {e = e} run step) k s job p row =
+      ⊎-elim
+      (λ old. let f = found-tag run k s job p old in (f .0, f .1, inr (f .2), f .3))
+      (λ new. (length ms, record { before = v; event = e; after = w }, inl (refl, refl), new .0 s job p refl))
+      (step-rows F v e w step k _ row)
+
+  found-begin : {ms : List (Moment V)} {v : View V} → Run F start ms v → (s job : ℕ) (work : Work V) → nth (v .journal) job ≡ Some (begin-row start s job work) → (t : ℕ) × (x : Moment V) × AtTime ms t x × BeginsAt x s job work
+  found-begin none s job work row = none-some _ row
+  found-begin (more {ms = ms} {v = v} {w = w} {e = e} run step) s job work row =
+      ⊎-elim
+      (λ old. let f = found-begin run s job work old in (f .0, f .1, inr (f .2), f .3))
+      (λ new. (length ms, record { before = v; event = e; after = w }, inl (refl, refl), new .1 s job work (begin-like start v s job work (sym (reached run .first-is)))))
+      (step-rows F v e w step job _ row)
+
+  module _ {ms : List (Moment V)} {v : View V} (run : Run F start ms v) where
+    inv-v : Inv v F
+    inv-v = reached run .inv
+
+    once-v : Once v
+    once-v = reached run .once
+
+    -- the begin row of a placed job
+    begun-of : (x : Placed ms) → Begun v (x .station) (x .job) (work-of ms (x .sort) (x .value)) × (x .job ≡ length (x .moment .before .journal)) × (1 ≤ x .station)
+    begun-of x = begin-fact run (x .began-at) (x .moment) (x .station) (x .job) (work-of ms (x .sort) (x .value)) (x .at) (x .begins)
+
+    -- the tagged row of a placed write
+    write-row : (x : Placed ms) → x .sort ≡ write → (k : ℕ) × (p : Pair V) × TaggedRow v k (x .station) (x .job) p × (p .tag ≡ x .tag)
+    write-row x is =
+        let b = begun-of x in
+        let got = subst (λ (sort : Sort). Got ms sort (x .station) (x .job) (x .tag) (x .value)) is (x .got) in
+        let begun-x : Begun v (x .station) (x .job) (Write (x .value)) = subst (λ (sort : Sort). Begun v (x .station) (x .job) (work-of ms sort (x .value))) is (b .0) in
+        (length (got .1 .before .journal), got .2, trip-fact run (got .0) (got .1) (x .station) (x .job) (x .value) (got .2) (got .3) (got .4) (b .2) begun-x, got .5)
+
+    -- the ended row of a placed read
+    read-row : (x : Placed ms) → x .sort ≡ read → (i : ℕ) × (p : Pair V) × EndedRow v i (x .station) (x .job) p × (p .tag ≡ x .tag) × (p .value ≡ x .value)
+    read-row x is =
+        let got = subst (λ (sort : Sort). Got ms sort (x .station) (x .job) (x .tag) (x .value)) is (x .got) in
+        (length (got .1 .before .journal), got .2, end-fact run (got .0) (got .1) (x .station) (x .job) (got .2) (got .3) (got .4) .0, got .5, got .6)
+
+    -- tagged rows of one tag are one row
+    same-write : (i k s r j l : ℕ) (p u : Pair V) → TaggedRow v i s j p → TaggedRow v k r l u → p .tag ≡ u .tag → j ≡ l
+    same-write i k s r j l p u a b e =
+        let x = inv-v .tagged i s j p a in
+        let y = inv-v .tagged k r l u b in
+        let at : s ≡ r = sym (x .owner) ∙ ap (λ (t : Tag). t .owner) e ∙ y .owner in
+        let counts : p .tag .count ≡ u .tag .count = ap (λ (t : Tag). t .count) e in
+        ⊎-elim
+        (λ here. ap (λ (z : Row V). z .job) (some-same (sym a ∙ ap (nth (v .journal)) here ∙ b)))
+        (⊎-elim
+          (λ less. absurd (omega (arith, y .rises i j p less (subst (λ (z : ℕ). TaggedRow v i z j p) at a))))
+          (λ more-than. absurd (omega (arith, x .rises k l u more-than (subst (λ (z : ℕ). TaggedRow v k z l u) (sym at) b)))))
+        (cases-order i k)
+
+    same-job : (x y : Placed ms) → x .began-at ≡ y .began-at → x .job ≡ y .job
+    same-job x y e =
+        let m-same : x .moment ≡ y .moment = same-time ms (y .began-at) (x .moment) (y .moment) (subst (λ (k : ℕ). AtTime ms k (x .moment)) e (x .at)) (y .at) in
+        begun-of x .1 ∙ ap (λ (z : Moment V). length (z .before .journal)) m-same ∙ sym (begun-of y .1)
+
+    at-equal : (x y : Placed ms) → (x .job ≡ y .job → ⊥) → x .tag ≡ y .tag → (a b : Sort) → x .sort ≡ a → y .sort ≡ b → AtEqualTags ms a b (x .began-at) (y .began-at) ⊎ AtEqualTags ms b a (y .began-at) (x .began-at)
+    at-equal x y ne e write write is also =
+        let p = write-row x is in
+        let u = write-row y also in
+        absurd (ne (same-write (p .0) (u .0) (x .station) (y .station) (x .job) (y .job) (p .1) (u .1) (p .2) (u .2) (p .3 ∙ e ∙ sym (u .3))))
+    at-equal x y ne e write read is also = inl tt
+    at-equal x y ne e read write is also = inr tt
+    at-equal x y ne e read read is also =
+        ⊎-elim (λ same. absurd (ne (same-job x y same))) (⊎-elim inl inr) (cases-order (x .began-at) (y .began-at))
+
+    total : (x y : Placed ms) → (x .job ≡ y .job → ⊥) → StandsBefore ms x y ⊎ StandsBefore ms y x
+    total x y ne =
+        ⊎-elim (λ b. inl (inl b))
+        (λ up.
+          ⊎-elim (λ b. inr (inl b))
+          (λ down.
+            let e = tag-order .same (x .tag) (y .tag) down up in
+            ⊎-elim (λ l. inl (inr (e, l))) (λ l. inr (inr (sym e, l))) (at-equal x y ne e (x .sort) (y .sort) refl refl))
+          (tag-order .either (y .tag) (x .tag)))
+        (tag-order .either (x .tag) (y .tag))
+
+    never-both : (a b : Sort) (i k : ℕ) → AtEqualTags ms a b i k → AtEqualTags ms b a k i → ⊥
+    never-both write write i k p q = p
+    never-both write read i k p q = q
+    never-both read write i k p q = p
+    never-both read read i k p q = omega arith
+
+    upto-of : (a b : Tag) → a ≡ b → Upto a b
+    upto-of a b e = subst (Upto a) e (omega arith, λ _. omega arith)
+
+    one-way : (x y : Placed ms) → StandsBefore ms x y → StandsBefore ms y x → ⊥
+    one-way x y (inl b) (inl c) = tag-order .not-both (x .tag) (y .tag) b (c .0, λ e. omega (arith, c .1 e))
+    one-way x y (inl b) (inr c) = tag-order .not-both (x .tag) (y .tag) b (upto-of (y .tag) (x .tag) (c .0))
+    one-way x y (inr b) (inl c) = tag-order .not-both (y .tag) (x .tag) c (upto-of (x .tag) (y .tag) (b .0))
+    one-way x y (inr b) (inr c) = never-both (x .sort) (y .sort) (x .began-at) (y .began-at) (b .1) (c .1)
+
+    -- the tag of a job is that with which it ended
+    ended-tag : (x : Placed ms) (sort : Sort) → x .sort ≡ sort → (i : ℕ) (p : Pair V) → EndedRow v i (x .station) (x .job) p → p .tag ≡ x .tag
+    ended-tag x write is i p row =
+        let w = write-row x is in
+        sym (ap (λ (z : Pair V). z .tag) (once-v .both (w .0) i (x .station) (x .job) (w .1) p (w .2) row)) ∙ w .3
+    ended-tag x read is i p row =
+        let w = read-row x is in
+        ap (λ (z : Pair V). z .tag) (once-v .ended i (w .0) (x .station) (x .job) p (w .1) row (w .2)) ∙ w .3
+
+    read-place : (c : Sort) (i k : ℕ) → i < k → AtEqualTags ms c read i k
+    read-place write i k l = tt
+    read-place read i k l = l
+
+    -- a job that began later has the greater number
+    began-later : (x y : Placed ms) → x .job < y .job → x .began-at < y .began-at
+    began-later x y l =
+        ⊎-elim (λ same. absurd (omega (arith, same-job x y same)))
+        (⊎-elim (λ less. less)
+          (λ more-than.
+            let o = past (y .began-at) (y .moment) run (y .at) in
+            let step = subst (λ (e : Event V). Step F (y .moment .before) e (y .moment .after)) (y .begins) (o .step) in
+            let shown = begin-shown F n laws (y .moment .before) (o .earlier .inv) (o .earlier .size-is) (y .station) (work-of ms (y .sort) (y .value)) (Ok (y .station, y .job)) (y .moment .after) step (y .job) refl in
+            let there = between (y .began-at) (x .began-at) (y .moment) (x .moment) run (y .at) (x .at) more-than (y .job) _ (shown .0) in
+            absurd (omega (arith, nth-below (x .moment .before .journal) (y .job) _ there, begun-of x .1))))
+        (cases-order (x .began-at) (y .began-at))
+
+    after-end : (x y : Placed ms) (a b : Sort) → x .sort ≡ a → y .sort ≡ b → (i : ℕ) (p : Pair V) → EndedRow v i (x .station) (x .job) p → i < y .job → x .job < y .job → StandsBefore ms x y
+    after-end x y a write is also i p row l earlier =
+        let w = write-row y also in
+        let above = inv-v .tagged (w .0) (y .station) (y .job) (w .1) (w .2) .above-ended i (x .station) (x .job) p row l in
+        inl (subst (λ (t : Tag). Before t (y .tag)) (ended-tag x a is i p row) (subst (Before (p .tag)) (w .3) above))
+    after-end x y a read is also i p row l earlier =
+        let w = read-row y also in
+        let x-tag = ended-tag x a is i p row in
+        let ended = inv-v .ended (w .0) (y .station) (y .job) (w .1) (w .2) in
+        let begun-y : Begun v (y .station) (y .job) Read = subst (λ (sort : Sort). Begun v (y .station) (y .job) (work-of ms sort (y .value))) also (begun-of y .0) in
+        let work-is : ended .work ≡ Read = begin-work v (y .station) (y .station) (y .job) (y .job) (ended .work) Read (some-same (sym (ended .begun) ∙ begun-y)) in
+        let above : AboveEnded v (y .job) (w .1 .tag) = subst (λ (z : Work V). Earned v (y .station) (y .job) z (w .1)) work-is (ended .earned) in
+        let up : Upto (x .tag) (y .tag) = subst (λ (t : Tag). Upto t (y .tag)) x-tag (subst (Upto (p .tag)) (w .3) (above i (x .station) (x .job) p row l)) in
+        ⊎-elim inl
+        (λ down.
+          let e = tag-order .same (x .tag) (y .tag) up down in
+          let place : (c d : Sort) → x .sort ≡ c → y .sort ≡ d → d ≡ read → AtEqualTags ms c d (x .began-at) (y .began-at) =
+              λ c d cs ds dr. subst (λ (z : Sort). AtEqualTags ms c z (x .began-at) (y .began-at)) (sym dr) (read-place c (x .began-at) (y .began-at) (began-later x y earlier)) in
+          inr (e, place (x .sort) (y .sort) refl refl also))
+        (tag-order .either (x .tag) (y .tag))
+
+    in-time : (x y : Placed ms) (k : ℕ) → EndedAt ms x k → k < y .began-at → StandsBefore ms x y
+    in-time x y k (m2, p, at, ends) l =
+        let row = end-fact run k m2 (x .station) (x .job) p at ends in
+        let o = past k m2 run at in
+        let grows = between k (y .began-at) m2 (y .moment) run at (y .at) l in
+        let i = length (m2 .before .journal) in
+        let low : i < y .job = omega (arith, nth-below (y .moment .before .journal) i _ (grows i _ (row .1 .2)), begun-of y .1) in
+        let begun-x = o .later .inv .ended i (x .station) (x .job) p (row .1) .begun in
+        let earlier : x .job < y .job = omega (arith, nth-below (y .moment .before .journal) (x .job) _ (grows (x .job) _ begun-x), begun-of y .1) in
+        after-end x y (x .sort) (y .sort) refl refl i p (row .0) low earlier
