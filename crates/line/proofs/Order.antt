@@ -366,3 +366,49 @@ module _ {V : Type 0} (F : ℕ → Type 0) (n : ℕ) (laws : Laws F n) (first : 
         let begun-x = o .later .inv .ended i (x .station) (x .job) p (row .1) .begun in
         let earlier : x .job < y .job = omega (arith, nth-below (y .moment .before .journal) (x .job) _ (grows (x .job) _ begun-x), begun-of y .1) in
         after-end x y (x .sort) (y .sort) refl refl i p (row .0) low earlier
+
+    -- the write of a tagged row
+    abbrev writer : (k s job : ℕ) (p : Pair V) → TaggedRow v k s job p → Placed ms
+    writer k s job p row =
+        let fits = inv-v .tagged k s job p row in
+        let b = found-begin run s job (Write (p .value)) (fits .begun ∙ ap Some (begin-like v start s job (Write (p .value)) (reached run .first-is))) in
+        let t = found-tag run k s job p row in
+        record {
+          sort = write; station = s; job = job; tag = p .tag; value = p .value;
+          began-at = b .0; moment = b .1; at = b .2; begins = b .3; got = (t .0, t .1, p, t .2, t .3, refl);
+        }
+
+    -- a write that stands before a read has a tag no later
+    no-later : (x y : Placed ms) → StandsBefore ms x y → Upto (x .tag) (y .tag)
+    no-later x y = ⊎-elim (λ b. (b .0, λ e. omega (arith, b .1 e))) (λ c. upto-of (x .tag) (y .tag) (c .0))
+
+    last-write : (y : Placed ms) → y .sort ≡ read → (((x : Placed ms) → x .sort ≡ write → StandsBefore ms x y → ⊥) × (y .value ≡ first .value)) ⊎ ((x : Placed ms) × (x .sort ≡ write) × StandsBefore ms x y × (y .value ≡ x .value) × ((z : Placed ms) → z .sort ≡ write → StandsBefore ms z y → (z .job ≡ x .job) ⊎ StandsBefore ms z x))
+    last-write y is =
+        let w = read-row y is in
+        let p = w .1 in
+        ⊎-elim
+        (λ e.
+          inl ((λ x also before.
+            let u = write-row x also in
+            let above = inv-v .tagged (u .0) (x .station) (x .job) (u .1) (u .2) .above-first in
+            let up = no-later x y before in
+            let x-count : u .1 .tag .count ≡ x .tag .count = ap (λ (t : Tag). t .count) (u .3) in
+            let y-count : p .tag .count ≡ y .tag .count = ap (λ (t : Tag). t .count) (w .3) in
+            let first-count : p .tag .count ≡ v .first .count = ap (λ (z : Pair V). z .tag .count) e in
+            omega (arith, up .0)),
+          sym (w .4) ∙ ap (λ (z : Pair V). z .value) e ∙ ap (λ (z : First V). z .value) (reached run .first-is)))
+        (λ k.
+          let x = writer (k .0) (k .1) (k .2) p (k .3) in
+          inr (x, refl, inr (w .3, subst (λ (z : Sort). AtEqualTags ms write z (x .began-at) (y .began-at)) (sym is) tt), sym (w .4),
+            λ z also before.
+              let up : Upto (z .tag) (x .tag) = subst (Upto (z .tag)) (sym (w .3)) (no-later z y before) in
+              ⊎-elim (λ b. inr (inl b))
+              (λ down.
+                let e = tag-order .same (z .tag) (x .tag) up down in
+                let u = write-row z also in
+                inl (same-write (u .0) (k .0) (z .station) (k .1) (z .job) (k .2) (u .1) p (u .2) (k .3) (u .3 ∙ e)))
+              (tag-order .either (z .tag) (x .tag))))
+        (inv-v .ended (w .0) (y .station) (y .job) p (w .2) .known)
+
+  pub order-of-jobs : OrderOfJobs F first n m bus-places journal-places
+  order-of-jobs ms v run = record { total = total run; one-way = one-way run; in-time = in-time run; last-write = last-write run }
