@@ -50,12 +50,13 @@ module _ {V : Type 0} (F : ℕ → Type 0) where
       let x = inv .bus t m in
       off-and-on F v inv place (reply t (Told (replica v (t .cabinet))) ∷ [])
       (λ u n.
-        ⊎-elim
-        (λ e.
-          subst (New F v inv) e
-          (record { station = x .station; work = x .work; begun = x .begun; carries = (inv .replicas (t .cabinet), upto-same (replica v (t .cabinet) .tag)); fits = λ h eq low. tt },
-          λ p told. let same : replica v (t .cabinet) ≡ p = cc in sym same))
-        (λ none. absurd none) n)
+      ⊎-elim
+      (λ e.
+      subst (New F v inv) e (
+        record { station = x .station; work = x .work; begun = x .begun; carries = (inv .replicas (t .cabinet), upto-same (replica v (t .cabinet) .tag)); fits = λ h eq low. tt },
+        λ p told. let same : replica v (t .cabinet) ≡ p = cc in sym same,
+      ))
+      (λ none. absurd none) n)
 
   -- a set is stored if it is later, and acknowledged
   module _ (v : View V) (inv : Inv v F) (place : ℕ) (t : Telegram V) (m : Among (v .bus) t) (p : Pair V) (is : t .kind ≡ Set p) where
@@ -80,24 +81,26 @@ module _ {V : Type 0} (F : ℕ → Type 0) where
         let up : Upto (p .tag) (replica w (t .cabinet) .tag) = subst (λ (z : Pair V). Upto (p .tag) (z .tag)) (sym at) (upto-same (p .tag)) in
         off-and-on F w stored place (reply t Took ∷ [])
         (λ u n.
-          ⊎-elim
-          (λ e.
-            subst (New F w stored) e
-            (record { station = x .station; work = x .work; begun = x .begun; carries = tt; fits = λ h eq low. took-fits w up h (h .stage) (set-fits h eq low) },
-            λ q told. let z : _≡_ {A = ℕ} 0 1 = cc in absurd (omega arith)))
-          (λ none. absurd none) n)
+        ⊎-elim
+        (λ e.
+        subst (New F w stored) e (
+          record { station = x .station; work = x .work; begun = x .begun; carries = tt; fits = λ h eq low. took-fits w up h (h .stage) (set-fits h eq low) },
+          λ q told. let z : _≡_ {A = ℕ} 0 1 = cc in absurd (omega arith),
+        ))
+        (λ none. absurd none) n)
 
     pub keeps-passed : Upto (p .tag) (replica v (t .cabinet) .tag) → Inv (send (with-bus v (removed (v .bus) place)) (reply t Took ∷ [])) F
     keeps-passed up =
         let x = inv .bus t m in
         off-and-on F v inv place (reply t Took ∷ [])
         (λ u n.
-          ⊎-elim
-          (λ e.
-            subst (New F v inv) e
-            (record { station = x .station; work = x .work; begun = x .begun; carries = tt; fits = λ h eq low. took-fits v up h (h .stage) (set-fits h eq low) },
-            λ q told. let z : _≡_ {A = ℕ} 0 1 = cc in absurd (omega arith)))
-          (λ none. absurd none) n)
+        ⊎-elim
+        (λ e.
+        subst (New F v inv) e (
+          record { station = x .station; work = x .work; begun = x .begun; carries = tt; fits = λ h eq low. took-fits v up h (h .stage) (set-fits h eq low) },
+          λ q told. let z : _≡_ {A = ℕ} 0 1 = cc in absurd (omega arith),
+        ))
+        (λ none. absurd none) n)
 
   -- sets of a job that is setting
   pub keeps-sets : (v : View V) (inv : Inv v F) (place s : ℕ) → 1 ≤ s → (h : Hand V) (p : Pair V) (a b : ℕ) → hand-of v s ≡ Some h → h .stage ≡ Setting p a b → Inv (with-bus v (removed (v .bus) place ++ to-all v s (h .job) (Set p))) F
@@ -105,13 +108,17 @@ module _ {V : Type 0} (F : ℕ → Type 0) where
       let known : Known v p = subst (λ (st : Stage V). StageFits v s h st) stage (inv .hands s h one e .1) .0 in
       off-and-on F v inv place (to-all v s (h .job) (Set p))
       (λ t n.
-        let sent = among-counted (λ c. record { cabinet = c; station = s; job = h .job; kind = Set p }) 0 (size v) t n in
-        subst (New F v inv) (sent .1)
-        (record {
-          station = one; work = h .work; begun = inv .hands s h one e .0; carries = known;
+      let sent = among-counted (λ c. record { cabinet = c; station = s; job = h .job; kind = Set p }) 0 (size v) t n in
+      subst (New F v inv) (sent .1) (
+        record {
+          station = one;
+          work = h .work;
+          begun = inv .hands s h one e .0;
+          carries = known;
           fits = λ k eq low. subst (λ (st : Stage V). SetFits v st p) (sym (ap (λ (z : Hand V). z .stage) (sym (some-same (sym e ∙ eq))) ∙ stage)) refl;
         },
-        λ u told. let z : _≡_ {A = ℕ} 0 1 = cc in absurd (omega arith)))
+        λ u told. let z : _≡_ {A = ℕ} 0 1 = cc in absurd (omega arith),
+      ))
 
   -- no job began after the newest row
   newest-bus : {A : Type 0} (v : View V) → Inv v F → (t : Telegram V) → Among (v .bus) t → length (v .journal) < t .job → A
@@ -132,21 +139,21 @@ module _ {V : Type 0} (F : ℕ → Type 0) where
         let held = keep F v inv s one in-line h e (last-of v s) (omega arith) g refl refl refl tt (λ t m k. over v t (t .kind) g p trips strikes refl) in
         let job-below = nth-below (v .journal) (h .job) _ (inv .hands s h one e .0) in
         let fits : EndedFits x F (length (v .journal)) s (h .job) p =
-            record {
-              work = h .work;
-              begun = begun-note F w held row s (h .job) (h .work) (inv .hands s h one e .0);
-              known = known-note F w held row p known;
-              earned = earned-note F w held row s (h .job) (h .work) p job-below earned;
-              quorum = q;
-              is-quorum = fq;
-              guards = λ c mem. record {
-                stored = stored c mem;
-                under-way = λ t u a told at l. newest-bus w held t a l;
-                kept = λ r k u l eq a low. newest-hand w held r k l eq low;
-              };
-            } in
+        record {
+          work = h .work;
+          begun = begun-note F w held row s (h .job) (h .work) (inv .hands s h one e .0);
+          known = known-note F w held row p known;
+          earned = earned-note F w held row s (h .job) (h .work) p job-below earned;
+          quorum = q;
+          is-quorum = fq;
+          guards = λ c mem. record {
+            stored = stored c mem;
+            under-way = λ t u a told at l. newest-bus w held t a l;
+            kept = λ r k u l eq a low. newest-hand w held r k l eq low;
+          };
+        } in
         inv-note F w held row
         (λ r j u eq. absurd (ended-not-tagged s (h .job) p trips strikes r j u eq))
         (λ r j u a b eq.
-          let P : Row V → Type 0 = λ z. EndedFits x F (length (v .journal)) (z .station) (z .job) (record { tag = z .tag; value = z .value }) in
-          subst P eq fits)
+        let P : Row V → Type 0 = λ z. EndedFits x F (length (v .journal)) (z .station) (z .job) (record { tag = z .tag; value = z .value }) in
+        subst P eq fits)

@@ -92,7 +92,7 @@ module _ {V : Type 0} (F : ℕ → Type 0) where
     pub keep : (last : ℕ) → last-of v s ≤ last → (g : Hand V) → g .job ≡ h .job → g .work ≡ h .work → g .told ≡ h .told → StageFits v s g (g .stage) → ((t : Telegram V) → Among (v .bus) t → KindFits v t (t .kind) h → KindFits v t (t .kind) g) → Inv (change v s last (Some g) (v .answers s)) F
     keep last l g job work same-told stage fits =
         let begun : Begun v s (g .job) (g .work) =
-            subst (λ (j : ℕ). Begun v s j (g .work)) (sym job) (subst (Begun v s (h .job)) (sym work) (inv .hands s h one e .0)) in
+        subst (λ (j : ℕ). Begun v s j (g .work)) (sym job) (subst (Begun v s (h .job)) (sym work) (inv .hands s h one e .0)) in
         inv-change F v inv s one in-line last (Some g) (v .answers s) (record {
           rises = l;
           begun = λ k eq. subst (λ (z : Hand V). Begun v s (z .job) (z .work) × StageFits v s z (z .stage)) (some-same eq) (begun, stage);
@@ -137,22 +137,23 @@ module _ {V : Type 0} (F : ℕ → Type 0) where
         let noted = inv-note F v inv row (λ r j p e. absurd (begin-not-tagged v s job work r j p e)) (λ r j p a b e. absurd (begin-not-ended v s job work r j p a b e)) in
         let begun : Begun w s job work = nth-last (v .journal) row in
         let changed =
-            inv-change F w noted s one in-line (last-of v s) (Some hand) (λ c. None) (record {
-              rises = omega arith;
-              begun = λ k eq. subst (λ (z : Hand V). Begun w s (z .job) (z .work) × StageFits w s z (z .stage)) (some-same eq) (begun, tt);
-              fits = λ t m at k eq low.
-                  absurd (omega (arith, nth-below (v .journal) (t .job) _ (inv .bus t m .begun), sym (ap (λ (z : Hand V). z .job) (some-same eq)), low));
-              tells = λ k eq c m. no-member c (subst (λ (told : ℕ). Member c told) (sym (ap (λ (z : Hand V). z .told) (some-same eq))) m);
-              told = λ c p a. none-some p a;
-              guarded = λ i c p g2 k u eq a low. none-some u a;
-            }) in
+        inv-change F w noted s one in-line (last-of v s) (Some hand) (λ c. None) (record {
+          rises = omega arith;
+          begun = λ k eq. subst (λ (z : Hand V). Begun w s (z .job) (z .work) × StageFits w s z (z .stage)) (some-same eq) (begun, tt);
+          fits = λ t m at k eq low.
+              absurd (omega (arith, nth-below (v .journal) (t .job) _ (inv .bus t m .begun), sym (ap (λ (z : Hand V). z .job) (some-same eq)), low));
+          tells = λ k eq c m. no-member c (subst (λ (told : ℕ). Member c told) (sym (ap (λ (z : Hand V). z .told) (some-same eq))) m);
+          told = λ c p a. none-some p a;
+          guarded = λ i c p g2 k u eq a low. none-some u a;
+        }) in
         let x = change w s (last-of v s) (Some hand) (λ c. None) in
         inv-bus F x changed (v .bus ++ to-all v s job Query)
         (λ t m.
-          ⊎-elim inl
-          (λ n.
-            let sent = among-counted (λ c. record { cabinet = c; station = s; job = job; kind = Query }) 0 (size v) t n in
-            inr (subst (New F x changed) (sent .1)
-              (record { station = one; work = work; begun = begun; carries = tt; fits = λ h eq low. tt },
-              λ u told. let z : _≡_ {A = ℕ} 0 1 = cc in absurd (omega arith))))
-          (among-append (v .bus) (to-all v s job Query) t m))
+        ⊎-elim inl
+        (λ n.
+        let sent = among-counted (λ c. record { cabinet = c; station = s; job = job; kind = Query }) 0 (size v) t n in
+        inr (subst (New F x changed) (sent .1) (
+          record { station = one; work = work; begun = begun; carries = tt; fits = λ h eq low. tt },
+          λ u told. let z : _≡_ {A = ℕ} 0 1 = cc in absurd (omega arith),
+        )))
+        (among-append (v .bus) (to-all v s job Query) t m))

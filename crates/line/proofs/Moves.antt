@@ -59,7 +59,7 @@ module _ {V : Type 0} (F : ℕ → Type 0) (v : View V) (inv : Inv v F) where
   pub inv-bus : (b : List (Telegram V)) → ((t : Telegram V) → Among b t → Among (v .bus) t ⊎ New t) → Inv (with-bus v b) F
   inv-bus b from =
       let again : (t : Telegram V) → Sound v t → Sound (with-bus v b) t =
-          λ t x. record { station = x .station; work = x .work; begun = x .begun; carries = x .carries; fits = x .fits } in
+      λ t x. record { station = x .station; work = x .work; begun = x .begun; carries = x .carries; fits = x .fits } in
       record {
         replicas = inv .replicas;
         bus = λ t m. ⊎-elim (λ o. again t (inv .bus t o)) (λ n. again t (n .0)) (from t m);
@@ -72,7 +72,12 @@ module _ {V : Type 0} (F : ℕ → Type 0) (v : View V) (inv : Inv v F) where
         ended = λ i s j p r.
             let x = inv .ended i s j p r in
             record {
-              work = x .work; begun = x .begun; known = x .known; earned = x .earned; quorum = x .quorum; is-quorum = x .is-quorum;
+              work = x .work;
+              begun = x .begun;
+              known = x .known;
+              earned = x .earned;
+              quorum = x .quorum;
+              is-quorum = x .is-quorum;
               guards = λ c m.
                   let g = x .guards c m in
                   record {
@@ -80,8 +85,8 @@ module _ {V : Type 0} (F : ℕ → Type 0) (v : View V) (inv : Inv v F) where
                     under-way = λ t u a told at l.
                         ⊎-elim (λ o. g .under-way t u o told at l)
                         (λ n.
-                          let is : replica v c ≡ u = ap (replica v) (sym at) ∙ sym (n .1 u told) in
-                          subst (λ (x : Pair V). Upto (p .tag) (x .tag)) is (g .stored))
+                        let is : replica v c ≡ u = ap (replica v) (sym at) ∙ sym (n .1 u told) in
+                        subst (λ (x : Pair V). Upto (p .tag) (x .tag)) is (g .stored))
                         (from t a);
                     kept = g .kept;
                   };
@@ -141,27 +146,34 @@ module _ {V : Type 0} (F : ℕ → Type 0) (v : View V) (inv : Inv v F) where
       tagged = λ k s j p row.
           ⊎-elim
           (λ old.
-            let x = inv .tagged k s j p old in
-            let far = nth-below (v .journal) k _ old in
-            let low = begun-below s j (Write (p .value)) (x .begun) in
-            record {
-              owner = x .owner; station = x .station; above-first = x .above-first; upto-last = x .upto-last;
-              begun = begun-note s j (Write (p .value)) (x .begun);
-              above-ended = λ i q m u e l. x .above-ended i q m u (ended-old i q m u e (omega arith)) l;
-              rises = λ i m u l t. x .rises i m u l (⊎-elim (λ o. o) (λ n. absurd (omega (arith, n .0))) (nth-cases (v .journal) r i _ t));
-            })
+          let x = inv .tagged k s j p old in
+          let far = nth-below (v .journal) k _ old in
+          let low = begun-below s j (Write (p .value)) (x .begun) in
+          record {
+            owner = x .owner;
+            station = x .station;
+            above-first = x .above-first;
+            upto-last = x .upto-last;
+            begun = begun-note s j (Write (p .value)) (x .begun);
+            above-ended = λ i q m u e l. x .above-ended i q m u (ended-old i q m u e (omega arith)) l;
+            rises = λ i m u l t. x .rises i m u l (⊎-elim (λ o. o) (λ n. absurd (omega (arith, n .0))) (nth-cases (v .journal) r i _ t));
+          })
           (λ here. subst (λ (i : ℕ). TaggedFits w i s j p) (sym (here .0)) (new-tagged s j p (here .1)))
           (nth-cases (v .journal) r k _ row);
       ended = λ i s j p row.
           ⊎-elim
           (λ old.
-            let x = inv .ended i s j p (row .0, row .1, old) in
-            let low = begun-below s j (x .work) (x .begun) in
-            record {
-              work = x .work; begun = begun-note s j (x .work) (x .begun); known = known-note p (x .known);
-              earned = earned-note s j (x .work) p low (x .earned); quorum = x .quorum; is-quorum = x .is-quorum;
-              guards = λ c m. let g = x .guards c m in record { stored = g .stored; under-way = g .under-way; kept = g .kept };
-            })
+          let x = inv .ended i s j p (row .0, row .1, old) in
+          let low = begun-below s j (x .work) (x .begun) in
+          record {
+            work = x .work;
+            begun = begun-note s j (x .work) (x .begun);
+            known = known-note p (x .known);
+            earned = earned-note s j (x .work) p low (x .earned);
+            quorum = x .quorum;
+            is-quorum = x .is-quorum;
+            guards = λ c m. let g = x .guards c m in record { stored = g .stored; under-way = g .under-way; kept = g .kept };
+          })
           (λ here. subst (λ (k : ℕ). EndedFits w F k s j p) (sym (here .0)) (new-ended s j p (row .0) (row .1) (here .1)))
           (nth-cases (v .journal) r i _ (row .2));
     }
@@ -172,9 +184,9 @@ module _ {V : Type 0} (F : ℕ → Type 0) (v : View V) (inv : Inv v F) where
     stored-at k =
         ⊎-elim
         (λ e.
-          ⊎-elim (λ l. inr (e, ap (λ (i : ℕ). getD (set (v .replicas) c p) i (first-pair v)) e ∙ getD-set-same (v .replicas) c p (first-pair v) l))
-          (λ l. inl (ap (λ (xs : List (Pair V)). getD xs k (first-pair v)) (set-past (v .replicas) c p l)))
-          (cases-lt c (length (v .replicas))))
+        ⊎-elim (λ l. inr (e, ap (λ (i : ℕ). getD (set (v .replicas) c p) i (first-pair v)) e ∙ getD-set-same (v .replicas) c p (first-pair v) l))
+        (λ l. inl (ap (λ (xs : List (Pair V)). getD xs k (first-pair v)) (set-past (v .replicas) c p l)))
+        (cases-lt c (length (v .replicas))))
         (λ other. inl (getD-set-other (v .replicas) c k p (first-pair v) other))
         (cases-eq k c)
 
@@ -182,8 +194,8 @@ module _ {V : Type 0} (F : ℕ → Type 0) (v : View V) (inv : Inv v F) where
     rise k =
         ⊎-elim (λ e. subst (λ (x : Pair V). Upto (replica v k .tag) (x .tag)) (sym e) (omega arith, λ _. omega arith))
         (λ h.
-          subst (λ (x : Pair V). Upto (replica v k .tag) (x .tag)) (sym (h .1))
-          (subst (λ (i : ℕ). Upto (replica v i .tag) (p .tag)) (sym (h .0)) (later .0, λ e. omega (arith, later .1 e))))
+        subst (λ (x : Pair V). Upto (replica v k .tag) (x .tag)) (sym (h .1))
+        (subst (λ (i : ℕ). Upto (replica v i .tag) (p .tag)) (sym (h .0)) (later .0, λ e. omega (arith, later .1 e))))
         (stored-at k)
 
     up : (t : Tag) (k : ℕ) → Upto t (replica v k .tag) → Upto t (replica (store v c p) k .tag)
@@ -227,8 +239,11 @@ module _ {V : Type 0} (F : ℕ → Type 0) (v : View V) (inv : Inv v F) where
       bus = λ t m.
           let x = inv .bus t m in
           record {
-            station = x .station; work = x .work; begun = begun-store (t .station) (t .job) (x .work) (x .begun);
-            carries = carries-store t (t .kind) (x .carries); fits = λ h e l. kind-store t (t .kind) h (x .fits h e l);
+            station = x .station;
+            work = x .work;
+            begun = begun-store (t .station) (t .job) (x .work) (x .begun);
+            carries = carries-store t (t .kind) (x .carries);
+            fits = λ h e l. kind-store t (t .kind) h (x .fits h e l);
           };
       answers = λ s k u h e. let x = inv .answers s k u h e in (x .0, up (u .tag) k (x .1));
       hands = λ s h l e. let x = inv .hands s h l e in (begun-store s (h .job) (h .work) (x .0), stage-store s h (h .stage) (x .1));
@@ -239,8 +254,12 @@ module _ {V : Type 0} (F : ℕ → Type 0) (v : View V) (inv : Inv v F) where
       ended = λ i s j u row.
           let x = inv .ended i s j u row in
           record {
-            work = x .work; begun = begun-store s j (x .work) (x .begun); known = x .known; earned = earned-store s j (x .work) u (x .earned);
-            quorum = x .quorum; is-quorum = x .is-quorum;
+            work = x .work;
+            begun = begun-store s j (x .work) (x .begun);
+            known = x .known;
+            earned = earned-store s j (x .work) u (x .earned);
+            quorum = x .quorum;
+            is-quorum = x .is-quorum;
             guards = λ k m. let g = x .guards k m in record { stored = up (u .tag) k (g .stored); under-way = g .under-way; kept = g .kept };
           };
     }
@@ -292,7 +311,10 @@ module _ {V : Type 0} (F : ℕ → Type 0) (v : View V) (inv : Inv v F) where
         bus = λ t m.
             let y = inv .bus t m in
             record {
-              station = y .station; work = y .work; begun = y .begun; carries = y .carries;
+              station = y .station;
+              work = y .work;
+              begun = y .begun;
+              carries = y .carries;
               fits = λ h e l.
                   ⊎-elim
                   (λ at. asked .fits t m at h (hand-here h (subst (λ (r : ℕ). hand-of x r ≡ Some h) at e)) l)
@@ -309,28 +331,39 @@ module _ {V : Type 0} (F : ℕ → Type 0) (v : View V) (inv : Inv v F) where
         told = λ r h l e c m.
             ⊎-elim
             (λ at.
-              let y = asked .tells h (hand-here h (subst (λ (q : ℕ). hand-of x q ≡ Some h) at e)) c m in
-              (y .0, ap (λ (q : ℕ). x .answers q c) at ∙ answers-here c ∙ y .1))
+            let y = asked .tells h (hand-here h (subst (λ (q : ℕ). hand-of x q ≡ Some h) at e)) c m in
+            (y .0, ap (λ (q : ℕ). x .answers q c) at ∙ answers-here c ∙ y .1))
             (λ ne. let y = inv .told r h l (hand-other r h l ne e) c m in (y .0, answers-other r c ne ∙ y .1)) (cases-eq r s);
         tagged = λ k r j p row.
             let y = inv .tagged k r j p row in
             record {
-              owner = y .owner; station = y .station; above-first = y .above-first; upto-last = omega (arith, y .upto-last, last-rises r (y .station));
-              begun = y .begun; above-ended = y .above-ended; rises = y .rises;
+              owner = y .owner;
+              station = y .station;
+              above-first = y .above-first;
+              upto-last = omega (arith, y .upto-last, last-rises r (y .station));
+              begun = y .begun;
+              above-ended = y .above-ended;
+              rises = y .rises;
             };
         ended = λ i r j p row.
             let y = inv .ended i r j p row in
             record {
-              work = y .work; begun = y .begun; known = y .known; earned = y .earned; quorum = y .quorum; is-quorum = y .is-quorum;
+              work = y .work;
+              begun = y .begun;
+              known = y .known;
+              earned = y .earned;
+              quorum = y .quorum;
+              is-quorum = y .is-quorum;
               guards = λ c m.
                   let g = y .guards c m in
                   record {
-                    stored = g .stored; under-way = g .under-way;
+                    stored = g .stored;
+                    under-way = g .under-way;
                     kept = λ q h u l e a low.
                         ⊎-elim
                         (λ at.
-                          asked .guarded i c p g h u (hand-here h (subst (λ (z : ℕ). hand-of x z ≡ Some h) at e))
-                          (sym (answers-here c) ∙ subst (λ (z : ℕ). x .answers z c ≡ Some u) at a) low)
+                        asked .guarded i c p g h u (hand-here h (subst (λ (z : ℕ). hand-of x z ≡ Some h) at e))
+                        (sym (answers-here c) ∙ subst (λ (z : ℕ). x .answers z c ≡ Some u) at a) low)
                         (λ ne. g .kept q h u l (hand-other q h l ne e) (sym (answers-other q c ne) ∙ a) low) (cases-eq q s);
                   };
             };

@@ -49,7 +49,6 @@ use Rattle.line.specs.Steps.{AtHand, AtStation, Begins, Chosen, Claims, Collec
 use Rattle.line.specs.Lines.{IsStation, View, at-stage, begin-row, change, ended-row, first-pair, given-row, hand-of, hold, last-of, note, put, replica, reply, send, size, spent-row, store, tag-of, tagged-row, to-all, told-tags, with-bus}
 use Rattle.line.proofs.Invariants.{AboveEnded, Among, Begun, Carries, Earned, EndedFits, EndedRow, Guard, Inv, KindFits, Known, SetFits, Sound, StageFits, TaggedFits, TaggedRow, TookFits}
 use Rattle.line.proofs.Rows.{among-append, among-counted, among-removed, begin-not-ended, begin-not-tagged, ended-not-tagged, given-not-ended, given-not-tagged, nth-among, spent-not-ended, spent-not-tagged, tagged-not-ended}
-
 use Rattle.line.specs.Lines.{idle, station-at}
 use Rattle.line.proofs.Keeps.{none-some, some-same}
 use Rattle.line.proofs.Moves.{nth-below, nth-cases}
@@ -117,15 +116,15 @@ module _ {V : Type 0} where
     pub once-same : w .journal ≡ v .journal → Once w
     once-same journal =
         let back : (i : ℕ) (r : Row V) → nth (w .journal) i ≡ Some r → nth (v .journal) i ≡ Some r =
-            λ i r e. sym (ap (λ (xs : List (Row V)). nth xs i) journal) ∙ e in
+        λ i r e. sym (ap (λ (xs : List (Row V)). nth xs i) journal) ∙ e in
         let end : (i r job : ℕ) (u : Pair V) → EndedRow w i r job u → EndedRow v i r job u = λ i r job u e. (e .0, e .1, back i _ (e .2)) in
         let lift : (r job : ℕ) (x : Stage V) → Phase v r job x → Phase w r job x =
-            λ r job. elim [
-              Querying ↦ λ f. ((λ k u e. f .0 k u (back k _ e)), (λ i u e. f .1 i u (end i r job u e)))
-            | Setting p a b ↦ λ f. ((λ k u e. f .0 k u (back k _ e)), (λ i u e. f .1 i u (end i r job u e)))
-            | Ended p a b ↦ λ f. ((λ k u e. f .0 k u (back k _ e)), (λ i u e. f .1 i u (end i r job u e)))
-            | Spent ↦ λ f. ((λ k u e. f .0 k u (back k _ e)), (λ i u e. f .1 i u (end i r job u e)))
-            ] in
+        λ r job. elim [
+          | Querying ↦ λ f. ((λ k u e. f .0 k u (back k _ e)), (λ i u e. f .1 i u (end i r job u e)))
+          | Setting p a b ↦ λ f. ((λ k u e. f .0 k u (back k _ e)), (λ i u e. f .1 i u (end i r job u e)))
+          | Ended p a b ↦ λ f. ((λ k u e. f .0 k u (back k _ e)), (λ i u e. f .1 i u (end i r job u e)))
+          | Spent ↦ λ f. ((λ k u e. f .0 k u (back k _ e)), (λ i u e. f .1 i u (end i r job u e)))
+        ] in
         record {
           phase = λ r h l e.
               ⊎-elim
@@ -140,22 +139,26 @@ module _ {V : Type 0} where
     pub once-row : (row : Row V) → w .journal ≡ v .journal ++ (row ∷ []) → RowFits v s row → Once w
     once-row row journal fits =
         let cases : (i : ℕ) (r : Row V) → nth (w .journal) i ≡ Some r → (nth (v .journal) i ≡ Some r) ⊎ (row ≡ r) =
-            λ i r e. ⊎-elim inl (λ x. inr (x .1)) (nth-cases (v .journal) row i r (sym (ap (λ (xs : List (Row V)). nth xs i) journal) ∙ e)) in
+        λ i r e. ⊎-elim inl (λ x. inr (x .1)) (nth-cases (v .journal) row i r (sym (ap (λ (xs : List (Row V)). nth xs i) journal) ∙ e)) in
         let theirs : (r job : ℕ) (x : Stage V) → (r ≡ s → ⊥) → Phase v r job x → Phase w r job x =
-            λ r job. elim [
-              Querying ↦ λ ne f. (
-                (λ k u e. ⊎-elim (f .0 k u) (λ n. ne (fits .0 r job u n .0)) (cases k _ e)),
-                (λ i u e. ⊎-elim (λ o. f .1 i u (e .0, e .1, o)) (λ n. ne (fits .1 r job u (e .0) (e .1) n .0)) (cases i _ (e .2))))
-            | Setting p a b ↦ λ ne f. (
-                (λ k u e. ⊎-elim (f .0 k u) (λ n. absurd (ne (fits .0 r job u n .0))) (cases k _ e)),
-                (λ i u e. ⊎-elim (λ o. f .1 i u (e .0, e .1, o)) (λ n. ne (fits .1 r job u (e .0) (e .1) n .0)) (cases i _ (e .2))))
-            | Ended p a b ↦ λ ne f. (
-                (λ k u e. ⊎-elim (f .0 k u) (λ n. absurd (ne (fits .0 r job u n .0))) (cases k _ e)),
-                (λ i u e. ⊎-elim (λ o. f .1 i u (e .0, e .1, o)) (λ n. absurd (ne (fits .1 r job u (e .0) (e .1) n .0))) (cases i _ (e .2))))
-            | Spent ↦ λ ne f. (
-                (λ k u e. ⊎-elim (f .0 k u) (λ n. ne (fits .0 r job u n .0)) (cases k _ e)),
-                (λ i u e. ⊎-elim (λ o. f .1 i u (e .0, e .1, o)) (λ n. ne (fits .1 r job u (e .0) (e .1) n .0)) (cases i _ (e .2))))
-            ] in
+        λ r job. elim [
+          | Querying ↦ λ ne f. (
+            (λ k u e. ⊎-elim (f .0 k u) (λ n. ne (fits .0 r job u n .0)) (cases k _ e)),
+            (λ i u e. ⊎-elim (λ o. f .1 i u (e .0, e .1, o)) (λ n. ne (fits .1 r job u (e .0) (e .1) n .0)) (cases i _ (e .2))),
+          )
+          | Setting p a b ↦ λ ne f. (
+            (λ k u e. ⊎-elim (f .0 k u) (λ n. absurd (ne (fits .0 r job u n .0))) (cases k _ e)),
+            (λ i u e. ⊎-elim (λ o. f .1 i u (e .0, e .1, o)) (λ n. ne (fits .1 r job u (e .0) (e .1) n .0)) (cases i _ (e .2))),
+          )
+          | Ended p a b ↦ λ ne f. (
+            (λ k u e. ⊎-elim (f .0 k u) (λ n. absurd (ne (fits .0 r job u n .0))) (cases k _ e)),
+            (λ i u e. ⊎-elim (λ o. f .1 i u (e .0, e .1, o)) (λ n. absurd (ne (fits .1 r job u (e .0) (e .1) n .0))) (cases i _ (e .2))),
+          )
+          | Spent ↦ λ ne f. (
+            (λ k u e. ⊎-elim (f .0 k u) (λ n. ne (fits .0 r job u n .0)) (cases k _ e)),
+            (λ i u e. ⊎-elim (λ o. f .1 i u (e .0, e .1, o)) (λ n. ne (fits .1 r job u (e .0) (e .1) n .0)) (cases i _ (e .2))),
+          )
+        ] in
         record {
           phase = λ r h l e.
               ⊎-elim
@@ -170,15 +173,15 @@ module _ {V : Type 0} where
               ⊎-elim
               (λ old. ⊎-elim (λ old2. once .ended k i r job p u (a .0, a .1, old) (b .0, b .1, old2)) (λ new. absurd (fits .1 r job u (b .0) (b .1) new .2 k p (a .0, a .1, old))) (cases i _ (b .2)))
               (λ new.
-                ⊎-elim (λ old2. absurd (fits .1 r job p (a .0) (a .1) new .2 i u (b .0, b .1, old2)))
-                (λ new2. same-ended r job r job (a .0) (a .1) (b .0) (b .1) p u (sym new ∙ new2)) (cases i _ (b .2)))
+              ⊎-elim (λ old2. absurd (fits .1 r job p (a .0) (a .1) new .2 i u (b .0, b .1, old2)))
+              (λ new2. same-ended r job r job (a .0) (a .1) (b .0) (b .1) p u (sym new ∙ new2)) (cases i _ (b .2)))
               (cases k _ (a .2));
           both = λ k i r job p u a b.
               ⊎-elim
               (λ old. ⊎-elim (λ old2. once .both k i r job p u old (b .0, b .1, old2)) (λ new. fits .1 r job u (b .0) (b .1) new .1 k p old) (cases i _ (b .2)))
               (λ new.
-                ⊎-elim (λ old2. absurd (fits .0 r job p new .2 i u (b .0, b .1, old2)))
-                (λ new2. absurd (tagged-not-ended r job p r job u (b .0) (b .1) (sym new ∙ new2))) (cases i _ (b .2)))
+              ⊎-elim (λ old2. absurd (fits .0 r job p new .2 i u (b .0, b .1, old2)))
+              (λ new2. absurd (tagged-not-ended r job p r job u (b .0) (b .1) (sym new ∙ new2))) (cases i _ (b .2)))
               (cases k _ a);
         }
 
@@ -212,9 +215,9 @@ module _ {V : Type 0} where
     unfolding station-of job-of
     tag-fits p = (
       (λ r j u e.
-        let at : s ≡ r = ap station-of e in
-        let on : job ≡ j = ap job-of e in
-        (sym at, subst (λ (z : ℕ). NoTagged v z j) at (subst (NoTagged v s) on (none .0)), subst (λ (z : ℕ). NoEnded v z j) at (subst (NoEnded v s) on (none .1)))),
+          let at : s ≡ r = ap station-of e in
+          let on : job ≡ j = ap job-of e in
+          (sym at, subst (λ (z : ℕ). NoTagged v z j) at (subst (NoTagged v s) on (none .0)), subst (λ (z : ℕ). NoEnded v z j) at (subst (NoEnded v s) on (none .1)))),
       (λ r j u a b e. absurd (tagged-not-ended s job p r j u a b e)),
     )
 
@@ -224,12 +227,13 @@ module _ {V : Type 0} where
     end-fits a b = (
       (λ r j u e. absurd (ended-not-tagged s job p a b r j u e)),
       (λ r j u c d e.
-        let at : s ≡ r = ap station-of e in
-        let on : job ≡ j = ap job-of e in
-        let is : p ≡ u = same-ended s job r j a b c d p u e in
-        (sym at,
-        subst (λ (z : ℕ). TaggedAs v z j u) at (subst (λ (z : ℕ). TaggedAs v s z u) on (subst (TaggedAs v s job) is alike)),
-        subst (λ (z : ℕ). NoEnded v z j) at (subst (NoEnded v s) on none))),
+          let at : s ≡ r = ap station-of e in
+          let on : job ≡ j = ap job-of e in
+          let is : p ≡ u = same-ended s job r j a b c d p u e in (
+            sym at,
+            subst (λ (z : ℕ). TaggedAs v z j u) at (subst (λ (z : ℕ). TaggedAs v s z u) on (subst (TaggedAs v s job) is alike)),
+            subst (λ (z : ℕ). NoEnded v z j) at (subst (NoEnded v s) on none),
+          )),
     )
 
   module _ (F : ℕ → Type 0) (v : View V) (inv : Inv v F) (once : Once v) where
@@ -285,9 +289,10 @@ module _ {V : Type 0} where
               once-row v y once s one (line .1 .1) (record { last = last-of x s; hand = Some k })
               (set-set (v .stations) (s - 1) first (record { last = last-of x s; hand = Some k }))
               (λ z eq.
-                subst (λ (g : Hand V). Phase (note v row) s (g .job) (g .stage)) (some-same eq)
-                (no-tagged-more v row s (h .job) (λ u n. spent-not-tagged v s (h .job) s (h .job) u n) (none .0),
-                no-ended-more v row s (h .job) (λ u a b n. spent-not-ended v s (h .job) s (h .job) u a b n) (none .1)))
+              subst (λ (g : Hand V). Phase (note v row) s (g .job) (g .stage)) (some-same eq) (
+                no-tagged-more v row s (h .job) (λ u n. spent-not-tagged v s (h .job) s (h .job) u n) (none .0),
+                no-ended-more v row s (h .job) (λ u a b n. spent-not-ended v s (h .job) s (h .job) u a b n) (none .1),
+              ))
               row refl
               (other-fits v s row (λ r j u n. spent-not-tagged v s (h .job) r j u n) (λ r j u a b n. spent-not-ended v s (h .job) r j u a b n))
 
@@ -300,9 +305,10 @@ module _ {V : Type 0} where
               once-row v (hold b s k) once s one (line .1 .1) last
               (set-set (x .stations) (s - 1) (record { last = g + 1; hand = Some told-hand }) last ∙ set-set (v .stations) (s - 1) first last)
               (λ z eq.
-                subst (λ (m : Hand V). Phase (note v row) s (m .job) (m .stage)) (some-same eq)
-                (tagged-as-more v row s (h .job) u (λ o n. sym (same-tagged s (h .job) s (h .job) u o n)) (nothing-tagged u),
-                no-ended-more v row s (h .job) (λ o c d n. tagged-not-ended s (h .job) u s (h .job) o c d n) (none .1)))
+              subst (λ (m : Hand V). Phase (note v row) s (m .job) (m .stage)) (some-same eq) (
+                tagged-as-more v row s (h .job) u (λ o n. sym (same-tagged s (h .job) s (h .job) u o n)) (nothing-tagged u),
+                no-ended-more v row s (h .job) (λ o c d n. tagged-not-ended s (h .job) u s (h .job) o c d n) (none .1),
+              ))
               row refl (tag-fits v s (h .job) none u)
 
           one-trip-once : (u : Pair V) (strikes : ℕ) → Once (note (hold x s (at-stage told-hand (Ended u 1 strikes))) (ended-row s (h .job) u 1 strikes))
@@ -312,9 +318,10 @@ module _ {V : Type 0} where
               once-row v (note (hold x s k) row) once s one (line .1 .1) (record { last = last-of x s; hand = Some k })
               (set-set (v .stations) (s - 1) first (record { last = last-of x s; hand = Some k }))
               (λ z eq.
-                subst (λ (g : Hand V). Phase (note v row) s (g .job) (g .stage)) (some-same eq)
-                (tagged-as-more v row s (h .job) u (λ o n. absurd (ended-not-tagged s (h .job) u 1 strikes s (h .job) o n)) (nothing-tagged u),
-                ended-as-more v row s (h .job) u (λ o c d n. sym (same-ended s (h .job) s (h .job) 1 strikes c d u o n)) (λ i o r. absurd (none .1 i o r))))
+              subst (λ (g : Hand V). Phase (note v row) s (g .job) (g .stage)) (some-same eq) (
+                tagged-as-more v row s (h .job) u (λ o n. absurd (ended-not-tagged s (h .job) u 1 strikes s (h .job) o n)) (nothing-tagged u),
+                ended-as-more v row s (h .job) u (λ o c d n. sym (same-ended s (h .job) s (h .job) 1 strikes c d u o n)) (λ i o r. absurd (none .1 i o r)),
+              ))
               row refl (end-fits v s (h .job) u (nothing-tagged u) (none .1) 1 strikes)
 
           reads-once : (q : ℕ) (verdict : Verdict) (strikes : ℕ) (r : Result Delivered Refusal) (w : View V) → Reads F v (with-bus v (removed (v .bus) place)) t x told-hand q verdict strikes r w → Once w
@@ -326,12 +333,12 @@ module _ {V : Type 0} where
           chosen-once q (Write y) r w c =
               ⊎-elim (λ z. subst Once (sym (z .1 .1)) spent-once)
               (λ z.
-                let u : Pair V = record { tag = record { count = c .0 + 1; owner = s }; value = y } in
-                ⊎-elim
-                (λ yes.
-                  subst Once (sym (yes .1 .1))
-                  (once-bus (hold (note (change x s (c .0 + 1) (Some told-hand) (x .answers s)) (tagged-row s (h .job) u)) s (at-stage told-hand (Setting u 0 0))) (tag-once (c .0) u) _))
-                (λ full. subst Once (sym (full .1 .3)) once) (z .1))
+              let u : Pair V = record { tag = record { count = c .0 + 1; owner = s }; value = y } in
+              ⊎-elim
+              (λ yes.
+              subst Once (sym (yes .1 .1))
+              (once-bus (hold (note (change x s (c .0 + 1) (Some told-hand) (x .answers s)) (tagged-row s (h .job) u)) s (at-stage told-hand (Setting u 0 0))) (tag-once (c .0) u) _))
+              (λ full. subst Once (sym (full .1 .3)) once) (z .1))
               (c .2)
           chosen-once q Read r w c = reads-once q (c .0) (c .1) r w (c .3)
 
@@ -344,21 +351,22 @@ module _ {V : Type 0} where
           let rows = subst (Phase v s (h .job)) stage (once .phase s h one e) in
           ⊎-elim
           (λ y.
-            let k = at-stage h (Setting p strikes (bitOr took (2 ^ t .cabinet))) in
-            let x = hold (with-bus v (removed (v .bus) place)) s k in
-            subst Once (sym (y .1 .1))
-            (once-same v x once s one (line .1 .1) (record { last = last-of v s; hand = Some k }) refl (λ z eq. subst (λ (g : Hand V). Phase v s (g .job) (g .stage)) (some-same eq) rows) refl))
+          let k = at-stage h (Setting p strikes (bitOr took (2 ^ t .cabinet))) in
+          let x = hold (with-bus v (removed (v .bus) place)) s k in
+          subst Once (sym (y .1 .1))
+          (once-same v x once s one (line .1 .1) (record { last = last-of v s; hand = Some k }) refl (λ z eq. subst (λ (g : Hand V). Phase v s (g .job) (g .stage)) (some-same eq) rows) refl))
           (λ y.
-            let k = at-stage h (Ended p 2 strikes) in
-            let row = ended-row s (h .job) p 2 strikes in
-            let x = note (hold (with-bus v (removed (v .bus) place)) s k) row in
-            subst Once (sym (y .2 .1))
-            (once-row v x once s one (line .1 .1) (record { last = last-of v s; hand = Some k }) refl
-              (λ z eq.
-                subst (λ (g : Hand V). Phase (note v row) s (g .job) (g .stage)) (some-same eq)
-                (tagged-as-more v row s (h .job) p (λ o n. absurd (ended-not-tagged s (h .job) p 2 strikes s (h .job) o n)) (rows .0),
-                ended-as-more v row s (h .job) p (λ o c d n. sym (same-ended s (h .job) s (h .job) 2 strikes c d p o n)) (λ i o m. absurd (rows .1 i o m))))
-              row refl (end-fits v s (h .job) p (rows .0) (rows .1) 2 strikes)))
+          let k = at-stage h (Ended p 2 strikes) in
+          let row = ended-row s (h .job) p 2 strikes in
+          let x = note (hold (with-bus v (removed (v .bus) place)) s k) row in
+          subst Once (sym (y .2 .1))
+          (once-row v x once s one (line .1 .1) (record { last = last-of v s; hand = Some k }) refl
+          (λ z eq.
+          subst (λ (g : Hand V). Phase (note v row) s (g .job) (g .stage)) (some-same eq) (
+            tagged-as-more v row s (h .job) p (λ o n. absurd (ended-not-tagged s (h .job) p 2 strikes s (h .job) o n)) (rows .0),
+            ended-as-more v row s (h .job) p (λ o c d n. sym (same-ended s (h .job) s (h .job) 2 strikes c d p o n)) (λ i o m. absurd (rows .1 i o m)),
+          ))
+          row refl (end-fits v s (h .job) p (rows .0) (rows .1) 2 strikes)))
 
       nothing-once : (r : Result Delivered Refusal) (w : View V) → (r ≡ Ok answer.Nothing) × (w ≡ with-bus v (removed (v .bus) place)) → Once w
       nothing-once r w y = subst Once (sym (y .1)) (bus-once (removed (v .bus) place))
@@ -407,11 +415,12 @@ module _ {V : Type 0} where
         let none-ended : NoEnded v s job = λ i u ended. omega (arith, nth-below (v .journal) job _ (inv .ended i s job u ended .begun)) in
         subst Once (sym (x .5))
         (once-row v (begun v s work) once s (x .0 .0) (x .0 .1) (record { last = last-of v s; hand = Some k }) refl
-          (λ z eq.
-            subst (λ (g : Hand V). Phase (note v row) s (g .job) (g .stage)) (some-same eq)
-            (no-tagged-more v row s job (λ u n. begin-not-tagged v s job work s job u n) none-tagged,
-            no-ended-more v row s job (λ u a b n. begin-not-ended v s job work s job u a b n) none-ended))
-          row refl (other-fits v s row (λ q j u n. begin-not-tagged v s job work q j u n) (λ q j u a b n. begin-not-ended v s job work q j u a b n)))
+        (λ z eq.
+        subst (λ (g : Hand V). Phase (note v row) s (g .job) (g .stage)) (some-same eq) (
+          no-tagged-more v row s job (λ u n. begin-not-tagged v s job work s job u n) none-tagged,
+          no-ended-more v row s job (λ u a b n. begin-not-ended v s job work s job u a b n) none-ended,
+        ))
+        row refl (other-fits v s row (λ q j u n. begin-not-tagged v s job work q j u n) (λ q j u a b n. begin-not-ended v s job work q j u a b n)))
 
     delivers-once : (place : ℕ) (r : Result Delivered Refusal) (w : View V) → Delivers F v place r w → Once w
     delivers-once place r w (inl x) = subst Once (sym (x .1 .3)) once

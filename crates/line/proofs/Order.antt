@@ -52,7 +52,6 @@ use Rattle.line.specs.Steps.{AtHand, AtStation, Begins, Chosen, Claims, Collec
 use Rattle.line.specs.Lines.{IsStation, View, at-stage, begin-row, change, ended-row, first-pair, given-row, hand-of, hold, last-of, note, put, replica, reply, send, size, spent-row, store, tag-of, tagged-row, to-all, told-tags, with-bus}
 use Rattle.line.proofs.Invariants.{AboveEnded, Among, Begun, Carries, Earned, EndedFits, EndedRow, Guard, Inv, KindFits, Known, SetFits, Sound, StageFits, TaggedFits, TaggedRow, TookFits}
 use Rattle.line.proofs.Rows.{begin-work, among-append, among-counted, among-removed, begin-not-ended, begin-not-tagged, ended-not-tagged, given-not-ended, given-not-tagged, nth-among, spent-not-ended, spent-not-tagged, tagged-not-ended}
-
 use Rattle.line.specs.Lines.{idle, station-at}
 use Rattle.line.proofs.Keeps.{none-some, some-same}
 use Rattle.line.proofs.Moves.{nth-below}
@@ -186,9 +185,9 @@ module _ {V : Type 0} (F : ℕ → Type 0) (n : ℕ) (laws : Laws F n) (first : 
         let same : shown .0 ≡ held .0 = some-same (sym (shown .4) ∙ ap (hand-of (x .after)) (d .4) ∙ held .3) in
         let pair : shown .1 ≡ p = ended-pair (shown .0 .stage) (shown .1) p (shown .2) (shown .3) (held .1) (held .2) (shown .5) (ap (λ (h : Hand V). h .stage) same ∙ held .4) in
         let row : EndedRow (x .after) (length (x .before .journal)) s job p =
-            subst (λ (u : Pair V). EndedRow (x .after) (length (x .before .journal)) s job u) pair
-            (subst (λ (j : ℕ). EndedRow (x .after) (length (x .before .journal)) s j (shown .1)) (d .5)
-              (subst (λ (r : ℕ). EndedRow (x .after) (length (x .before .journal)) r (d .1 .job) (shown .1)) (d .4) (shown .7))) in
+        subst (λ (u : Pair V). EndedRow (x .after) (length (x .before .journal)) s job u) pair
+        (subst (λ (j : ℕ). EndedRow (x .after) (length (x .before .journal)) s j (shown .1)) (d .5)
+        (subst (λ (r : ℕ). EndedRow (x .after) (length (x .before .journal)) r (d .1 .job) (shown .1)) (d .4) (shown .7))) in
         ((row .0, row .1, o .grows (length (x .before .journal)) _ (row .2)), row)
 
     -- the row of a write's tag
@@ -202,14 +201,14 @@ module _ {V : Type 0} (F : ℕ → Type 0) (n : ℕ) (laws : Laws F n) (first : 
         let pair : shown .1 ≡ p = setting-pair (shown .0 .stage) (shown .1) p (shown .2) (shown .3) (held .1) (held .2) (shown .5) (ap (λ (h : Hand V). h .stage) same ∙ held .4) in
         ⊎-elim
         (λ read-job.
-          let b : Begun (x .after) s job Read =
-              subst (λ (j : ℕ). Begun (x .after) s j Read) (shown .6 ∙ d .5) (subst (Begun (x .after) s (shown .0 .job)) read-job (o .later .inv .hands s (shown .0) one hand-is .0)) in
-          absurd (write-not-read v s job y (some-same (sym begun-v ∙ begun-up x o s job Read b))))
+        let b : Begun (x .after) s job Read =
+        subst (λ (j : ℕ). Begun (x .after) s j Read) (shown .6 ∙ d .5) (subst (Begun (x .after) s (shown .0 .job)) read-job (o .later .inv .hands s (shown .0) one hand-is .0)) in
+        absurd (write-not-read v s job y (some-same (sym begun-v ∙ begun-up x o s job Read b))))
         (λ tagged.
-          o .grows (length (x .before .journal)) _
-          (subst (λ (u : Pair V). TaggedRow (x .after) (length (x .before .journal)) s job u) pair
-            (subst (λ (j : ℕ). TaggedRow (x .after) (length (x .before .journal)) s j (shown .1)) (d .5)
-              (subst (λ (r : ℕ). TaggedRow (x .after) (length (x .before .journal)) r (d .1 .job) (shown .1)) (d .4) tagged))))
+        o .grows (length (x .before .journal)) _
+        (subst (λ (u : Pair V). TaggedRow (x .after) (length (x .before .journal)) s job u) pair
+        (subst (λ (j : ℕ). TaggedRow (x .after) (length (x .before .journal)) s j (shown .1)) (d .5)
+        (subst (λ (r : ℕ). TaggedRow (x .after) (length (x .before .journal)) r (d .1 .job) (shown .1)) (d .4) tagged))))
         (shown .7)
 
   -- rows come from moments
@@ -264,8 +263,8 @@ module _ {V : Type 0} (F : ℕ → Type 0) (n : ℕ) (laws : Laws F n) (first : 
         ⊎-elim
         (λ here. ap (λ (z : Row V). z .job) (some-same (sym a ∙ ap (nth (v .journal)) here ∙ b)))
         (⊎-elim
-          (λ less. absurd (omega (arith, y .rises i j p less (subst (λ (z : ℕ). TaggedRow v i z j p) at a))))
-          (λ more-than. absurd (omega (arith, x .rises k l u more-than (subst (λ (z : ℕ). TaggedRow v k z l u) (sym at) b)))))
+        (λ less. absurd (omega (arith, y .rises i j p less (subst (λ (z : ℕ). TaggedRow v i z j p) at a))))
+        (λ more-than. absurd (omega (arith, x .rises k l u more-than (subst (λ (z : ℕ). TaggedRow v k z l u) (sym at) b)))))
         (cases-order i k)
 
     same-job : (x y : Placed ms) → x .began-at ≡ y .began-at → x .job ≡ y .job
@@ -287,11 +286,11 @@ module _ {V : Type 0} (F : ℕ → Type 0) (n : ℕ) (laws : Laws F n) (first : 
     total x y ne =
         ⊎-elim (λ b. inl (inl b))
         (λ up.
-          ⊎-elim (λ b. inr (inl b))
-          (λ down.
-            let e = tag-order .same (x .tag) (y .tag) down up in
-            ⊎-elim (λ l. inl (inr (e, l))) (λ l. inr (inr (sym e, l))) (at-equal x y ne e (x .sort) (y .sort) refl refl))
-          (tag-order .either (y .tag) (x .tag)))
+        ⊎-elim (λ b. inr (inl b))
+        (λ down.
+        let e = tag-order .same (x .tag) (y .tag) down up in
+        ⊎-elim (λ l. inl (inr (e, l))) (λ l. inr (inr (sym e, l))) (at-equal x y ne e (x .sort) (y .sort) refl refl))
+        (tag-order .either (y .tag) (x .tag)))
         (tag-order .either (x .tag) (y .tag))
 
     never-both : (a b : Sort) (i k : ℕ) → AtEqualTags ms a b i k → AtEqualTags ms b a k i → ⊥
@@ -327,12 +326,12 @@ module _ {V : Type 0} (F : ℕ → Type 0) (n : ℕ) (laws : Laws F n) (first : 
     began-later x y l =
         ⊎-elim (λ same. absurd (omega (arith, same-job x y same)))
         (⊎-elim (λ less. less)
-          (λ more-than.
-            let o = past (y .began-at) (y .moment) run (y .at) in
-            let step = subst (λ (e : Event V). Step F (y .moment .before) e (y .moment .after)) (y .begins) (o .step) in
-            let shown = begin-shown F n laws (y .moment .before) (o .earlier .inv) (o .earlier .size-is) (y .station) (work-of ms (y .sort) (y .value)) (Ok (y .station, y .job)) (y .moment .after) step (y .job) refl in
-            let there = between (y .began-at) (x .began-at) (y .moment) (x .moment) run (y .at) (x .at) more-than (y .job) _ (shown .0) in
-            absurd (omega (arith, nth-below (x .moment .before .journal) (y .job) _ there, begun-of x .1))))
+        (λ more-than.
+        let o = past (y .began-at) (y .moment) run (y .at) in
+        let step = subst (λ (e : Event V). Step F (y .moment .before) e (y .moment .after)) (y .begins) (o .step) in
+        let shown = begin-shown F n laws (y .moment .before) (o .earlier .inv) (o .earlier .size-is) (y .station) (work-of ms (y .sort) (y .value)) (Ok (y .station, y .job)) (y .moment .after) step (y .job) refl in
+        let there = between (y .began-at) (x .began-at) (y .moment) (x .moment) run (y .at) (x .at) more-than (y .job) _ (shown .0) in
+        absurd (omega (arith, nth-below (x .moment .before .journal) (y .job) _ there, begun-of x .1))))
         (cases-order (x .began-at) (y .began-at))
 
     after-end : (x y : Placed ms) (a b : Sort) → x .sort ≡ a → y .sort ≡ b → (i : ℕ) (p : Pair V) → EndedRow v i (x .station) (x .job) p → i < y .job → x .job < y .job → StandsBefore ms x y
@@ -350,10 +349,10 @@ module _ {V : Type 0} (F : ℕ → Type 0) (n : ℕ) (laws : Laws F n) (first : 
         let up : Upto (x .tag) (y .tag) = subst (λ (t : Tag). Upto t (y .tag)) x-tag (subst (Upto (p .tag)) (w .3) (above i (x .station) (x .job) p row l)) in
         ⊎-elim inl
         (λ down.
-          let e = tag-order .same (x .tag) (y .tag) up down in
-          let place : (c d : Sort) → x .sort ≡ c → y .sort ≡ d → d ≡ read → AtEqualTags ms c d (x .began-at) (y .began-at) =
-              λ c d cs ds dr. subst (λ (z : Sort). AtEqualTags ms c z (x .began-at) (y .began-at)) (sym dr) (read-place c (x .began-at) (y .began-at) (began-later x y earlier)) in
-          inr (e, place (x .sort) (y .sort) refl refl also))
+        let e = tag-order .same (x .tag) (y .tag) up down in
+        let place : (c d : Sort) → x .sort ≡ c → y .sort ≡ d → d ≡ read → AtEqualTags ms c d (x .began-at) (y .began-at) =
+        λ c d cs ds dr. subst (λ (z : Sort). AtEqualTags ms c z (x .began-at) (y .began-at)) (sym dr) (read-place c (x .began-at) (y .began-at) (began-later x y earlier)) in
+        inr (e, place (x .sort) (y .sort) refl refl also))
         (tag-order .either (x .tag) (y .tag))
 
     in-time : (x y : Placed ms) (k : ℕ) → EndedAt ms x k → k < y .began-at → StandsBefore ms x y
@@ -374,8 +373,16 @@ module _ {V : Type 0} (F : ℕ → Type 0) (n : ℕ) (laws : Laws F n) (first : 
         let b = found-begin run s job (Write (p .value)) (fits .begun ∙ ap Some (begin-like v start s job (Write (p .value)) (reached run .first-is))) in
         let t = found-tag run k s job p row in
         record {
-          sort = write; station = s; job = job; tag = p .tag; value = p .value;
-          began-at = b .0; moment = b .1; at = b .2; begins = b .3; got = (t .0, t .1, p, t .2, t .3, refl);
+          sort = write;
+          station = s;
+          job = job;
+          tag = p .tag;
+          value = p .value;
+          began-at = b .0;
+          moment = b .1;
+          at = b .2;
+          begins = b .3;
+          got = (t .0, t .1, p, t .2, t .3, refl);
         }
 
     -- a write that stands before a read has a tag no later
@@ -388,26 +395,33 @@ module _ {V : Type 0} (F : ℕ → Type 0) (n : ℕ) (laws : Laws F n) (first : 
         let p = w .1 in
         ⊎-elim
         (λ e.
-          inl ((λ x also before.
-            let u = write-row x also in
-            let above = inv-v .tagged (u .0) (x .station) (x .job) (u .1) (u .2) .above-first in
-            let up = no-later x y before in
-            let x-count : u .1 .tag .count ≡ x .tag .count = ap (λ (t : Tag). t .count) (u .3) in
-            let y-count : p .tag .count ≡ y .tag .count = ap (λ (t : Tag). t .count) (w .3) in
-            let first-count : p .tag .count ≡ v .first .count = ap (λ (z : Pair V). z .tag .count) e in
-            omega (arith, up .0)),
-          sym (w .4) ∙ ap (λ (z : Pair V). z .value) e ∙ ap (λ (z : First V). z .value) (reached run .first-is)))
+        inl (
+          (λ x also before.
+              let u = write-row x also in
+              let above = inv-v .tagged (u .0) (x .station) (x .job) (u .1) (u .2) .above-first in
+              let up = no-later x y before in
+              let x-count : u .1 .tag .count ≡ x .tag .count = ap (λ (t : Tag). t .count) (u .3) in
+              let y-count : p .tag .count ≡ y .tag .count = ap (λ (t : Tag). t .count) (w .3) in
+              let first-count : p .tag .count ≡ v .first .count = ap (λ (z : Pair V). z .tag .count) e in
+              omega (arith, up .0)),
+          sym (w .4) ∙ ap (λ (z : Pair V). z .value) e ∙ ap (λ (z : First V). z .value) (reached run .first-is),
+        ))
         (λ k.
-          let x = writer (k .0) (k .1) (k .2) p (k .3) in
-          inr (x, refl, inr (w .3, subst (λ (z : Sort). AtEqualTags ms write z (x .began-at) (y .began-at)) (sym is) tt), sym (w .4),
-            λ z also before.
+        let x = writer (k .0) (k .1) (k .2) p (k .3) in
+        inr (
+          x,
+          refl,
+          inr (w .3, subst (λ (z : Sort). AtEqualTags ms write z (x .began-at) (y .began-at)) (sym is) tt),
+          sym (w .4),
+          λ z also before.
               let up : Upto (z .tag) (x .tag) = subst (Upto (z .tag)) (sym (w .3)) (no-later z y before) in
               ⊎-elim (λ b. inr (inl b))
               (λ down.
-                let e = tag-order .same (z .tag) (x .tag) up down in
-                let u = write-row z also in
-                inl (same-write (u .0) (k .0) (z .station) (k .1) (z .job) (k .2) (u .1) p (u .2) (k .3) (u .3 ∙ e)))
-              (tag-order .either (z .tag) (x .tag))))
+              let e = tag-order .same (z .tag) (x .tag) up down in
+              let u = write-row z also in
+              inl (same-write (u .0) (k .0) (z .station) (k .1) (z .job) (k .2) (u .1) p (u .2) (k .3) (u .3 ∙ e)))
+              (tag-order .either (z .tag) (x .tag)),
+        ))
         (inv-v .ended (w .0) (y .station) (y .job) p (w .2) .known)
 
   pub order-of-jobs : OrderOfJobs F first n m bus-places journal-places

@@ -51,7 +51,6 @@ use Rattle.line.specs.Steps.{AtHand, AtStation, Begins, Chosen, Claims, Collec
 use Rattle.line.specs.Lines.{IsStation, View, at-stage, begin-row, change, ended-row, first-pair, given-row, hand-of, hold, last-of, note, put, replica, reply, send, size, spent-row, store, tag-of, tagged-row, to-all, told-tags, with-bus}
 use Rattle.line.proofs.Invariants.{AboveEnded, Among, Begun, Carries, Earned, EndedFits, EndedRow, Guard, Inv, KindFits, Known, SetFits, Sound, StageFits, TaggedFits, TaggedRow, TookFits}
 use Rattle.line.proofs.Rows.{begin-job, begin-not-given, begin-not-spent, begin-station, begin-work, among-append, among-counted, among-removed, begin-not-ended, begin-not-tagged, ended-not-tagged, given-not-ended, given-not-tagged, nth-among, spent-not-ended, spent-not-tagged, tagged-not-ended}
-
 use Rattle.line.specs.Lines.{idle, station-at}
 use Rattle.line.proofs.Keeps.{none-some, some-same}
 use Rattle.line.proofs.Moves.{nth-below, nth-cases}
@@ -128,26 +127,28 @@ module _ {V : Type 0} where
           ⊎-elim
           (λ z. one-more v e w (note (hold x s (at-stage g Spent)) (spent-row x s (g .job))) (z .1 .1) (spent-row x s (g .job)) refl (spent-source v e w x s (g .job)))
           (λ z.
-            let u : Pair V = record { tag = record { count = c .0 + 1; owner = s }; value = y } in
-            let row = tagged-row s (g .job) u in
-            let b = note (change x s (c .0 + 1) (Some g) (x .answers s)) row in
-            let k = at-stage g (Setting u 0 0) in
-            let sent = send (hold b s k) (to-all b s (g .job) (Set u)) in
-            ⊎-elim
-            (λ yes.
-              let held : hand-of sent s ≡ Some k =
-                  ap (λ (st : Station V). st .hand)
-                  (getD-set-same (b .stations) (s - 1) (record { last = last-of b s; hand = Some k }) idle
-                    (omega (arith, line .1 .0, line .1 .1, length-set (x .stations) (s - 1) (record { last = c .0 + 1; hand = Some g }), length-set (v .stations) (s - 1) (record { last = last-of v s; hand = Some g })))) in
-              one-more v e w sent (yes .1 .1) row refl
-              ((λ r j o n.
+          let u : Pair V = record { tag = record { count = c .0 + 1; owner = s }; value = y } in
+          let row = tagged-row s (g .job) u in
+          let b = note (change x s (c .0 + 1) (Some g) (x .answers s)) row in
+          let k = at-stage g (Setting u 0 0) in
+          let sent = send (hold b s k) (to-all b s (g .job) (Set u)) in
+          ⊎-elim
+          (λ yes.
+          let held : hand-of sent s ≡ Some k =
+          ap (λ (st : Station V). st .hand)
+          (getD-set-same (b .stations) (s - 1) (record { last = last-of b s; hand = Some k }) idle
+          (omega (arith, line .1 .0, line .1 .1, length-set (x .stations) (s - 1) (record { last = c .0 + 1; hand = Some g }), length-set (v .stations) (s - 1) (record { last = last-of v s; hand = Some g })))) in
+          one-more v e w sent (yes .1 .1) row refl (
+            (λ r j o n.
                 let at-s : s ≡ r = ap station-row n in
                 let on : h .job ≡ j = ap job-row n in
-                let is : u ≡ o = ap pair-row n in
-                ((place, t, ap (delivered place) (yes .1 .0), nth-t, at-s, sym job ∙ on),
-                (k, 0, 0, ap (λ (z : View V). hand-of z r) (yes .1 .1) ∙ ap (hand-of sent) (sym at-s) ∙ held, ap (λ (q : Pair V). Setting q 0 0) is))),
-              (λ r j work n. absurd (begin-not-tagged v r j work s (h .job) u (sym n)))))
-            (λ full. still v e w v (full .1 .3) refl) (z .1))
+                let is : u ≡ o = ap pair-row n in (
+                  (place, t, ap (delivered place) (yes .1 .0), nth-t, at-s, sym job ∙ on),
+                  (k, 0, 0, ap (λ (z : View V). hand-of z r) (yes .1 .1) ∙ ap (hand-of sent) (sym at-s) ∙ held, ap (λ (q : Pair V). Setting q 0 0) is),
+                )),
+            (λ r j work n. absurd (begin-not-tagged v r j work s (h .job) u (sym n))),
+          ))
+          (λ full. still v e w v (full .1 .3) refl) (z .1))
           (c .2)
 
       tells-rows : (w : View V) → Tells F v (with-bus v (removed (v .bus) place)) t h p res w → Sources (record { before = v; event = e; after = w })
@@ -197,10 +198,10 @@ module _ {V : Type 0} where
     begin-source s work r w ok = (
       (λ q j u n. absurd (begin-not-tagged v s (length (v .journal)) work q j u n)),
       (λ q j other n.
-        let at-s : s ≡ q = begin-station v s q (length (v .journal)) j work other n in
-        let on : length (v .journal) ≡ j = begin-job v s q (length (v .journal)) j work other n in
-        let is : work ≡ other = begin-work v s q (length (v .journal)) j work other n in
-        λ i. began (at-s i) (is i) ((ok ∙ (λ k. Ok (at-s k, on k))) i)),
+          let at-s : s ≡ q = begin-station v s q (length (v .journal)) j work other n in
+          let on : length (v .journal) ≡ j = begin-job v s q (length (v .journal)) j work other n in
+          let is : work ≡ other = begin-work v s q (length (v .journal)) j work other n in
+          λ i. began (at-s i) (is i) ((ok ∙ (λ k. Ok (at-s k, on k))) i)),
     )
 
     pub step-rows : (e : Event V) (w : View V) → Step F v e w → Sources (record { before = v; event = e; after = w })

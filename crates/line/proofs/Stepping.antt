@@ -167,17 +167,17 @@ module _ {V : Type 0} (F : ℕ → Type 0) (n : ℕ) (laws : Laws F n) where
             second work tag strikes judged k u mem a at r w =
                 ⊎-elim
                 (λ y.
-                  let z = hold x s (at-stage g (Setting u strikes 0)) in
-                  let set-inv = keeps-second F (laws .share) (laws .member) x kept s one in-line g held refl q fq inside line-x few-x work tag strikes judged k u mem a at in
-                  let set-held : hand-of z s ≡ Some (at-stage g (Setting u strikes 0)) =
-                      ap (λ (st : Station V). st .hand) (here F x kept s one in-line (last-of x s) (Some (at-stage g (Setting u strikes 0))) (x .answers s)) in
-                  let sent = keeps-sets F z set-inv place s one (at-stage g (Setting u strikes 0)) u strikes 0 set-held refl in
-                  record {
-                    good = subst (Good v) (sym (y .1 .1)) (record { inv = sent; grows = λ i b f. f; size-kept = refl; first-kept = refl });
-                    trip = λ f.
-                        subst (λ (b : View V). Trip v b t) (sym (y .1 .1)) (at-stage g (Setting u strikes 0), u, strikes, 0, set-held, refl, job, inl work);
-                    end = λ f. other-answer r answer.SecondTrip answer.Ended (y .1 .0) (λ c. omega arith) f;
-                  })
+                let z = hold x s (at-stage g (Setting u strikes 0)) in
+                let set-inv = keeps-second F (laws .share) (laws .member) x kept s one in-line g held refl q fq inside line-x few-x work tag strikes judged k u mem a at in
+                let set-held : hand-of z s ≡ Some (at-stage g (Setting u strikes 0)) =
+                ap (λ (st : Station V). st .hand) (here F x kept s one in-line (last-of x s) (Some (at-stage g (Setting u strikes 0))) (x .answers s)) in
+                let sent = keeps-sets F z set-inv place s one (at-stage g (Setting u strikes 0)) u strikes 0 set-held refl in
+                record {
+                  good = subst (Good v) (sym (y .1 .1)) (record { inv = sent; grows = λ i b f. f; size-kept = refl; first-kept = refl });
+                  trip = λ f.
+                      subst (λ (b : View V). Trip v b t) (sym (y .1 .1)) (at-stage g (Setting u strikes 0), u, strikes, 0, set-held, refl, job, inl work);
+                  end = λ f. other-answer r answer.SecondTrip answer.Ended (y .1 .0) (λ c. omega arith) f;
+                })
                 (λ y. refused w t r (y .1 .0) (y .1 .1) (y .1 .3))
 
             reads : (work : h .work ≡ Read) (verdict : Verdict) (strikes : ℕ) → Judged (told-tags x s) q F verdict strikes → (r : Result Delivered Refusal) (w : View V) → Reads F v (with-bus v (removed (v .bus) place)) t (with-bus x (removed (v .bus) place)) g q verdict strikes r w → Shown v w t r
@@ -190,7 +190,7 @@ module _ {V : Type 0} (F : ℕ → Type 0) (n : ℕ) (laws : Laws F n) where
                 let ended = keeps-one-trip F (laws .share) (laws .member) x kept s one in-line g held refl q fq inside line-x few-x work tag strikes judged (low .0) u (low .1) (low .2) (low .3) in
                 let end-held : hand-of z s ≡ Some k = ap (λ (st : Station V). st .hand) (here F x kept s one in-line (last-of x s) (Some k) (x .answers s)) in
                 let row : EndedRow z (length (v .journal)) s (t .job) u =
-                    subst (λ (j : ℕ). EndedRow z (length (v .journal)) s j u) job (1, strikes, nth-last (v .journal) (ended-row s (g .job) u 1 strikes)) in
+                subst (λ (j : ℕ). EndedRow z (length (v .journal)) s j u) job (1, strikes, nth-last (v .journal) (ended-row s (g .job) u 1 strikes)) in
                 record {
                   good = subst (Good v) (sym (y .2 .1)) (record { inv = off F z ended place; grows = λ i b f. nth-kept (v .journal) (ended-row s (g .job) u 1 strikes) i b f; size-kept = refl; first-kept = refl });
                   trip = λ f. other-answer r answer.Ended answer.SecondTrip (y .2 .0) (λ c. omega arith) f;
@@ -216,18 +216,18 @@ module _ {V : Type 0} (F : ℕ → Type 0) (n : ℕ) (laws : Laws F n) where
                 let most : (i : ℕ) (a : Pair V) → Member i q → x .answers s i ≡ Some a → a .tag .count ≤ c = greatest .1 in
                 ⊎-elim
                 (λ yes.
-                  let set-inv = keeps-setting F (laws .share) (laws .member) x kept s one in-line g held refl q fq inside y work c (greatest .0) most in
-                  let b-inv = keeps-tag F (laws .share) (laws .member) x kept s one in-line g held refl q fq inside y work c (greatest .0) most in
-                  let b-line : s ≤ length (b .stations) = subst (λ (i : ℕ). s ≤ i) (sym (length-set (x .stations) (s - 1) (record { last = c + 1; hand = Some g }))) in-line in
-                  let set-held : hand-of z s ≡ Some k = ap (λ (st : Station V). st .hand) (here F b b-inv s one b-line (last-of b s) (Some k) (b .answers s)) in
-                  let sent = keeps-sets F z set-inv place s one k u 0 0 set-held refl in
-                  let tagged : TaggedRow z (length (v .journal)) s (t .job) u =
-                      subst (λ (j : ℕ). TaggedRow z (length (v .journal)) s j u) job (nth-last (v .journal) row) in
-                  record {
-                    good = subst (Good v) (sym (yes .1 .1)) (record { inv = sent; grows = λ i a f. nth-kept (v .journal) row i a f; size-kept = refl; first-kept = refl });
-                    trip = λ f. subst (λ (a : View V). Trip v a t) (sym (yes .1 .1)) (k, u, 0, 0, set-held, refl, job, inr tagged);
-                    end = λ f. other-answer r answer.SecondTrip answer.Ended (yes .1 .0) (λ e. omega arith) f;
-                  })
+                let set-inv = keeps-setting F (laws .share) (laws .member) x kept s one in-line g held refl q fq inside y work c (greatest .0) most in
+                let b-inv = keeps-tag F (laws .share) (laws .member) x kept s one in-line g held refl q fq inside y work c (greatest .0) most in
+                let b-line : s ≤ length (b .stations) = subst (λ (i : ℕ). s ≤ i) (sym (length-set (x .stations) (s - 1) (record { last = c + 1; hand = Some g }))) in-line in
+                let set-held : hand-of z s ≡ Some k = ap (λ (st : Station V). st .hand) (here F b b-inv s one b-line (last-of b s) (Some k) (b .answers s)) in
+                let sent = keeps-sets F z set-inv place s one k u 0 0 set-held refl in
+                let tagged : TaggedRow z (length (v .journal)) s (t .job) u =
+                subst (λ (j : ℕ). TaggedRow z (length (v .journal)) s j u) job (nth-last (v .journal) row) in
+                record {
+                  good = subst (Good v) (sym (yes .1 .1)) (record { inv = sent; grows = λ i a f. nth-kept (v .journal) row i a f; size-kept = refl; first-kept = refl });
+                  trip = λ f. subst (λ (a : View V). Trip v a t) (sym (yes .1 .1)) (k, u, 0, 0, set-held, refl, job, inr tagged);
+                  end = λ f. other-answer r answer.SecondTrip answer.Ended (yes .1 .0) (λ e. omega arith) f;
+                })
                 (λ full. refused w t r (full .1 .0) (full .1 .1) (full .1 .3))
                 (tag .1)
 
@@ -240,8 +240,8 @@ module _ {V : Type 0} (F : ℕ → Type 0) (n : ℕ) (laws : Laws F n) where
           tells r w =
               ⊎-elim
               (λ y.
-                plain w (with-bus x (removed (v .bus) place)) t r answer.Kept (λ e. omega arith) (λ e. omega arith) (y .1 .0) (y .1 .1)
-                (off F x kept place) (λ i b f. f) refl refl)
+              plain w (with-bus x (removed (v .bus) place)) t r answer.Kept (λ e. omega arith) (λ e. omega arith) (y .1 .0) (y .1 .1)
+              (off F x kept place) (λ i b f. f) refl refl)
               (λ y. chosen (y .0) (y .1 .0) (y .1 .1) (h .work) refl r w (y .2))
 
         -- a took that counts
@@ -250,22 +250,22 @@ module _ {V : Type 0} (F : ℕ → Type 0) (n : ℕ) (laws : Laws F n) where
         takes p strikes took stage is r w =
             ⊎-elim
             (λ y.
-              let z = hold v s (at-stage h (Setting p strikes (bitOr took (2 ^ t .cabinet)))) in
-              plain w (with-bus z (removed (v .bus) place)) t r answer.Kept (λ e. omega arith) (λ e. omega arith) (y .1 .0) (y .1 .1)
-              (off F z (keeps-counted F (laws .share) (laws .member) v inv t m (line .1 .1) h e p strikes took stage job is) place) (λ i b f. f) refl refl)
+            let z = hold v s (at-stage h (Setting p strikes (bitOr took (2 ^ t .cabinet)))) in
+            plain w (with-bus z (removed (v .bus) place)) t r answer.Kept (λ e. omega arith) (λ e. omega arith) (y .1 .0) (y .1 .1)
+            (off F z (keeps-counted F (laws .share) (laws .member) v inv t m (line .1 .1) h e p strikes took stage job is) place) (λ i b f. f) refl refl)
             (λ y.
-              let k = at-stage h (Ended p 2 strikes) in
-              let row = ended-row s (h .job) p 2 strikes in
-              let z = note (hold v s k) row in
-              let ended = keeps-took F (laws .share) (laws .member) v inv t m (line .1 .1) h e p strikes took stage job is (y .0) (y .1 .0) (y .1 .1) in
-              let end-held : hand-of z s ≡ Some k = ap (λ (st : Station V). st .hand) (here F v inv s one (line .1 .1) (last-of v s) (Some k) (v .answers s)) in
-              let shown : EndedRow z (length (v .journal)) s (t .job) p =
-                  subst (λ (j : ℕ). EndedRow z (length (v .journal)) s j p) job (2, strikes, nth-last (v .journal) row) in
-              record {
-                good = subst (Good v) (sym (y .2 .1)) (record { inv = off F z ended place; grows = λ i b f. nth-kept (v .journal) row i b f; size-kept = refl; first-kept = refl });
-                trip = λ f. other-answer r answer.Ended answer.SecondTrip (y .2 .0) (λ c. omega arith) f;
-                end = λ f. subst (λ (b : View V). End v b t) (sym (y .2 .1)) (k, p, 2, strikes, end-held, refl, job, shown);
-              })
+            let k = at-stage h (Ended p 2 strikes) in
+            let row = ended-row s (h .job) p 2 strikes in
+            let z = note (hold v s k) row in
+            let ended = keeps-took F (laws .share) (laws .member) v inv t m (line .1 .1) h e p strikes took stage job is (y .0) (y .1 .0) (y .1 .1) in
+            let end-held : hand-of z s ≡ Some k = ap (λ (st : Station V). st .hand) (here F v inv s one (line .1 .1) (last-of v s) (Some k) (v .answers s)) in
+            let shown : EndedRow z (length (v .journal)) s (t .job) p =
+            subst (λ (j : ℕ). EndedRow z (length (v .journal)) s j p) job (2, strikes, nth-last (v .journal) row) in
+            record {
+              good = subst (Good v) (sym (y .2 .1)) (record { inv = off F z ended place; grows = λ i b f. nth-kept (v .journal) row i b f; size-kept = refl; first-kept = refl });
+              trip = λ f. other-answer r answer.Ended answer.SecondTrip (y .2 .0) (λ c. omega arith) f;
+              end = λ f. subst (λ (b : View V). End v b t) (sym (y .2 .1)) (k, p, 2, strikes, end-held, refl, job, shown);
+            })
 
       at-station : (h : Hand V) (e : hand-of v s ≡ Some h) (st : Stage V) → h .stage ≡ st → (k : TelegramKind V) → t .kind ≡ k → (r : Result Delivered Refusal) (w : View V) → AtStation F v (with-bus v (removed (v .bus) place)) t h st k r w → Shown v w t r
       at-station h e Querying stage (Told p) is r w = ⊎-elim (λ y. tells h e (y .0) p stage is r w (y .2)) (λ y. nothing r w (y .1))
@@ -297,13 +297,13 @@ module _ {V : Type 0} (F : ℕ → Type 0) (n : ℕ) (laws : Laws F n) where
       handed (Set p) is r w y =
           ⊎-elim
           (λ later.
-            plain w (send (store (with-bus v (removed (v .bus) place)) (t .cabinet) p) (reply t Took ∷ [])) t r answer.Answered (λ e. omega arith) (λ e. omega arith) (y .0)
-            (y .1 .2 ∙ ap (λ (z : View V). send z (reply t Took ∷ [])) (later .1))
-            (keeps-stored F v inv place t m p is (later .0) (line .0)) (λ i b f. f) (length-set (v .replicas) (t .cabinet) p) refl)
+          plain w (send (store (with-bus v (removed (v .bus) place)) (t .cabinet) p) (reply t Took ∷ [])) t r answer.Answered (λ e. omega arith) (λ e. omega arith) (y .0)
+          (y .1 .2 ∙ ap (λ (z : View V). send z (reply t Took ∷ [])) (later .1))
+          (keeps-stored F v inv place t m p is (later .0) (line .0)) (λ i b f. f) (length-set (v .replicas) (t .cabinet) p) refl)
           (λ passed.
-            plain w (send (with-bus v (removed (v .bus) place)) (reply t Took ∷ [])) t r answer.Answered (λ e. omega arith) (λ e. omega arith) (y .0)
-            (y .1 .2 ∙ ap (λ (z : View V). send z (reply t Took ∷ [])) (passed .1))
-            (keeps-passed F v inv place t m p is (passed .0)) (λ i b f. f) refl refl)
+          plain w (send (with-bus v (removed (v .bus) place)) (reply t Took ∷ [])) t r answer.Answered (λ e. omega arith) (λ e. omega arith) (y .0)
+          (y .1 .2 ∙ ap (λ (z : View V). send z (reply t Took ∷ [])) (passed .1))
+          (keeps-passed F v inv place t m p is (passed .0)) (λ i b f. f) refl refl)
           (y .1 .1)
       handed (Told p) is r w y = at-hand (hand-of v s) refl r w y
       handed Took is r w y = at-hand (hand-of v s) refl r w y
@@ -334,7 +334,7 @@ module _ {V : Type 0} (F : ℕ → Type 0) (n : ℕ) (laws : Laws F n) where
     double-good place r w (inr (inr x)) =
         changed w _ (x .4)
         (inv-bus F v inv (v .bus ++ (x .0 ∷ []))
-          (λ u n. ⊎-elim inl (λ y. ⊎-elim (λ e. inl (subst (Among (v .bus)) e (nth-among (v .bus) place (x .0) (x .1)))) (λ none. absurd none) y) (among-append (v .bus) (x .0 ∷ []) u n)))
+        (λ u n. ⊎-elim inl (λ y. ⊎-elim (λ e. inl (subst (Among (v .bus)) e (nth-among (v .bus) place (x .0) (x .1)))) (λ none. absurd none) y) (among-append (v .bus) (x .0 ∷ []) u n)))
         (λ i b f. f) refl refl
 
     pub collect-good : (s job : ℕ) (r : Result (Collected V) Refusal) (w : View V) → Collects v s job r w → Good v w

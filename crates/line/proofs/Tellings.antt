@@ -77,22 +77,22 @@ module _ {V : Type 0} (F : ℕ → Type 0) (share : (p q : ℕ) → F p → F q 
           tells = λ k eq d mem.
               ⊎-elim (λ at. (p, ap (put (v .answers s) c (Some p)) at ∙ put-here (v .answers s) c (Some p)))
               (λ ne.
-                ⊎-elim (λ old. let y = inv .told s h one e d old in (y .0, put-other (v .answers s) c (Some p) d ne ∙ y .1)) (λ at. absurd (ne at))
-                (with-cases (h .told) c d (subst (λ (x : ℕ). Member d x) (sym (ap (λ (z : Hand V). z .told) (some-same eq))) mem)))
+              ⊎-elim (λ old. let y = inv .told s h one e d old in (y .0, put-other (v .answers s) c (Some p) d ne ∙ y .1)) (λ at. absurd (ne at))
+              (with-cases (h .told) c d (subst (λ (x : ℕ). Member d x) (sym (ap (λ (z : Hand V). z .told) (some-same eq))) mem)))
               (cases-eq d c);
           told = λ d u a.
               ⊎-elim
               (λ at.
-                let same : p ≡ u = some-same (sym (ap (put (v .answers s) c (Some p)) at ∙ put-here (v .answers s) c (Some p)) ∙ a) in
-                subst (λ (x : ℕ). Known v u × Upto (u .tag) (replica v x .tag)) (sym at) (subst (λ (z : Pair V). Known v z × Upto (z .tag) (replica v c .tag)) same carried))
+              let same : p ≡ u = some-same (sym (ap (put (v .answers s) c (Some p)) at ∙ put-here (v .answers s) c (Some p)) ∙ a) in
+              subst (λ (x : ℕ). Known v u × Upto (u .tag) (replica v x .tag)) (sym at) (subst (λ (z : Pair V). Known v z × Upto (z .tag) (replica v c .tag)) same carried))
               (λ ne. inv .answers s d u one (sym (put-other (v .answers s) c (Some p) d ne) ∙ a))
               (cases-eq d c);
           guarded = λ i d u g2 k z eq a low.
               let low2 : i < h .job = subst (λ (j : ℕ). i < j) (sym (ap (λ (y : Hand V). y .job) (some-same eq))) low in
               ⊎-elim
               (λ at.
-                let same : p ≡ z = some-same (sym (ap (put (v .answers s) c (Some p)) at ∙ put-here (v .answers s) c (Some p)) ∙ a) in
-                g2 .under-way t z m (is ∙ ap Told same) (sym at) (subst (λ (j : ℕ). i < j) job low2))
+              let same : p ≡ z = some-same (sym (ap (put (v .answers s) c (Some p)) at ∙ put-here (v .answers s) c (Some p)) ∙ a) in
+              g2 .under-way t z m (is ∙ ap Told same) (sym at) (subst (λ (j : ℕ). i < j) job low2))
               (λ ne. g2 .kept s h z one e (sym (put-other (v .answers s) c (Some p) d ne) ∙ a) low2)
               (cases-eq d c);
         })
@@ -158,7 +158,7 @@ module _ {V : Type 0} (F : ℕ → Type 0) (share : (p q : ℕ) → F p → F q 
         begun = begun-note F raised raised-inv row s (h .job) (Write x) begun-write;
         above-ended = λ i r j u ended low.
             let old : EndedRow v i r j u =
-                (ended .0, ended .1, ⊎-elim (λ o. o) (λ n. absurd (omega (arith, n .0, job-below))) (nth-cases (v .journal) row i _ (ended .2))) in
+            (ended .0, ended .1, ⊎-elim (λ o. o) (λ n. absurd (omega (arith, n .0, job-below))) (nth-cases (v .journal) row i _ (ended .2))) in
             let a = above i r j u old low in
             let less = most (a .0) (a .2 .0) (a .1) (a .2 .1) in
             (omega (arith, a .2 .2 .0), λ eq. absurd (omega (arith, a .2 .2 .0)));
@@ -171,8 +171,8 @@ module _ {V : Type 0} (F : ℕ → Type 0) (share : (p q : ℕ) → F p → F q 
       keeps-tag =
           inv-note F raised raised-inv row
           (λ r j u eq.
-            let P : Row V → Type 0 = λ z. TaggedFits tagged-view (length (v .journal)) (z .station) (z .job) (record { tag = z .tag; value = z .value }) in
-            subst P eq tagged-fits)
+          let P : Row V → Type 0 = λ z. TaggedFits tagged-view (length (v .journal)) (z .station) (z .job) (record { tag = z .tag; value = z .value }) in
+          subst P eq tagged-fits)
           (λ r j u a b eq. absurd (tagged-not-ended s (h .job) new r j u a b eq))
 
       held : hand-of tagged-view s ≡ Some h
@@ -184,9 +184,11 @@ module _ {V : Type 0} (F : ℕ → Type 0) (share : (p q : ℕ) → F p → F q 
 
       pub keeps-setting : Inv (hold tagged-view s set-hand) F
       keeps-setting =
-          keep F tagged-view keeps-tag s one (subst (λ (n : ℕ). s ≤ n) (sym (length-set (v .stations) (s - 1) (record { last = g + 1; hand = Some h }))) in-line) h held (last-of tagged-view s) (omega arith) set-hand refl refl refl
-          (inr (length (v .journal), s, h .job, nth-last (v .journal) row), (λ k mem. no-member k mem),
-            subst (λ (y : Work V). Earned tagged-view s (h .job) y new) (sym work) (length (v .journal), nth-last (v .journal) row))
+          keep F tagged-view keeps-tag s one (subst (λ (n : ℕ). s ≤ n) (sym (length-set (v .stations) (s - 1) (record { last = g + 1; hand = Some h }))) in-line) h held (last-of tagged-view s) (omega arith) set-hand refl refl refl (
+            inr (length (v .journal), s, h .job, nth-last (v .journal) row),
+            (λ k mem. no-member k mem),
+            subst (λ (y : Work V). Earned tagged-view s (h .job) y new) (sym work) (length (v .journal), nth-last (v .journal) row),
+          )
           (λ t m k. querying tagged-view t (t .kind) h set-hand stage k)
 
     -- the counts have run out
@@ -210,32 +212,34 @@ module _ {V : Type 0} (F : ℕ → Type 0) (share : (p q : ℕ) → F p → F q 
           let law = lawful (told-tags v s) q F small share (OneTrip tag) strikes judged in
           keeps-end F v inv s one in-line h e p 1 strikes (inv .answers s k p one a .0)
           (subst (λ (y : Work V). Earned v s (h .job) y p) (sym work)
-            (λ i r j u row low.
-              let x = inv .ended i r j u row in
-              ⊎-elim
-              (λ same. x .guards k (subst (λ (d : ℕ). Member k d) (sym same) mem) .kept s h p one e a low)
-              (λ other.
-                let found = law .2 fq (x .quorum) (x .is-quorum) other in
-                let b = told-by (found .0) (found .2) in
-                let at : b .0 .tag ≡ p .tag = sym (told-at (found .0) (b .0) (line q fq (found .0) (found .2)) (b .1)) ∙ found .3 ∙ sym is in
-                subst (Upto (u .tag)) at (x .guards (found .0) (found .1) .kept s h (b .0) one e (b .1) low))
-              (cases-eq (x .quorum) q)))
+          (λ i r j u row low.
+          let x = inv .ended i r j u row in
+          ⊎-elim
+          (λ same. x .guards k (subst (λ (d : ℕ). Member k d) (sym same) mem) .kept s h p one e a low)
+          (λ other.
+          let found = law .2 fq (x .quorum) (x .is-quorum) other in
+          let b = told-by (found .0) (found .2) in
+          let at : b .0 .tag ≡ p .tag = sym (told-at (found .0) (b .0) (line q fq (found .0) (found .2)) (b .1)) ∙ found .3 ∙ sym is in
+          subst (Upto (u .tag)) at (x .guards (found .0) (found .1) .kept s h (b .0) one e (b .1) low))
+          (cases-eq (x .quorum) q)))
           q fq
           (λ c m.
-            let b = told-by c m in
-            let first = subst (λ (z : Tag). Upto z (b .0 .tag)) (sym is) (subst (Upto tag) (told-at c (b .0) (line q fq c m) (b .1)) (law .1 c m)) in
-            tag-order .through (p .tag) (b .0 .tag) (replica v c .tag) first (inv .answers s c (b .0) one (b .1) .1))
+          let b = told-by c m in
+          let first = subst (λ (z : Tag). Upto z (b .0 .tag)) (sym is) (subst (Upto tag) (told-at c (b .0) (line q fq c m) (b .1)) (law .1 c m)) in
+          tag-order .through (p .tag) (b .0 .tag) (replica v c .tag) first (inv .answers s c (b .0) one (b .1) .1))
 
       pub keeps-second : (tag : Tag) (strikes : ℕ) → Judged (told-tags v s) q F (SecondTrip tag) strikes → (k : ℕ) (p : Pair V) → Member k q → v .answers s k ≡ Some p → p .tag ≡ tag → Inv (hold v s (at-stage h (Setting p strikes 0))) F
       keeps-second tag strikes judged k p mem a is =
           let g = at-stage h (Setting p strikes 0) in
-          keep F v inv s one in-line h e (last-of v s) (omega arith) g refl refl refl
-          (inv .answers s k p one a .0, (λ c m. no-member c m),
+          keep F v inv s one in-line h e (last-of v s) (omega arith) g refl refl refl (
+            inv .answers s k p one a .0,
+            (λ c m. no-member c m),
             subst (λ (y : Work V). Earned v s (h .job) y p) (sym work)
-            (λ i r j u row low.
-              let b = above i r j u row low in
-              let most = subst (Upto (b .2 .0 .tag)) (sym is) (subst (λ (z : Tag). Upto z tag) (told-at (b .0) (b .2 .0) (line q fq (b .0) (b .1)) (b .2 .1)) (judged .1 (b .0) (b .1))) in
-              tag-order .through (u .tag) (b .2 .0 .tag) (p .tag) (b .2 .2) most))
+                (λ i r j u row low.
+                let b = above i r j u row low in
+                let most = subst (Upto (b .2 .0 .tag)) (sym is) (subst (λ (z : Tag). Upto z tag) (told-at (b .0) (b .2 .0) (line q fq (b .0) (b .1)) (b .2 .1)) (judged .1 (b .0) (b .1))) in
+                tag-order .through (u .tag) (b .2 .0 .tag) (p .tag) (b .2 .2) most),
+          )
           (λ t m x. querying v t (t .kind) h g stage x)
 
   -- Tooks: counted, and the job ends with a quorum of them.

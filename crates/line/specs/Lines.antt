@@ -101,8 +101,14 @@ module _ {V : Type 0} where
   -- Changing one: telegrams join the bus, a row joins the journal, a cabinet's replica, a station's record.
   abbrev pub with-bus : View V → List (Telegram V) → View V
   with-bus v bus = record {
-    first = v .first; replicas = v .replicas; stations = v .stations; answers = v .answers;
-    bus = bus; journal = v .journal; bus-places = v .bus-places; journal-places = v .journal-places;
+    first = v .first;
+    replicas = v .replicas;
+    stations = v .stations;
+    answers = v .answers;
+    bus = bus;
+    journal = v .journal;
+    bus-places = v .bus-places;
+    journal-places = v .journal-places;
   }
 
   abbrev pub send : View V → List (Telegram V) → View V
@@ -110,22 +116,39 @@ module _ {V : Type 0} where
 
   abbrev pub note : View V → Row V → View V
   note v row = record {
-    first = v .first; replicas = v .replicas; stations = v .stations; answers = v .answers;
-    bus = v .bus; journal = v .journal ++ (row ∷ []); bus-places = v .bus-places; journal-places = v .journal-places;
+    first = v .first;
+    replicas = v .replicas;
+    stations = v .stations;
+    answers = v .answers;
+    bus = v .bus;
+    journal = v .journal ++ (row ∷ []);
+    bus-places = v .bus-places;
+    journal-places = v .journal-places;
   }
 
   abbrev pub store : View V → ℕ → Pair V → View V
   store v c p = record {
-    first = v .first; replicas = set (v .replicas) c p; stations = v .stations; answers = v .answers;
-    bus = v .bus; journal = v .journal; bus-places = v .bus-places; journal-places = v .journal-places;
+    first = v .first;
+    replicas = set (v .replicas) c p;
+    stations = v .stations;
+    answers = v .answers;
+    bus = v .bus;
+    journal = v .journal;
+    bus-places = v .bus-places;
+    journal-places = v .journal-places;
   }
 
   -- the station's own last count, its job in hand, and what was told it
   abbrev pub change : View V → ℕ → ℕ → Option (Hand V) → (ℕ → Option (Pair V)) → View V
   change v s last hand answers = record {
-    first = v .first; replicas = v .replicas; stations = set (v .stations) (s - 1) (record { last = last; hand = hand });
+    first = v .first;
+    replicas = v .replicas;
+    stations = set (v .stations) (s - 1) (record { last = last; hand = hand });
     answers = put (v .answers) s answers;
-    bus = v .bus; journal = v .journal; bus-places = v .bus-places; journal-places = v .journal-places;
+    bus = v .bus;
+    journal = v .journal;
+    bus-places = v .bus-places;
+    journal-places = v .journal-places;
   }
 
   -- the job in hand alone

@@ -161,8 +161,8 @@ module _ {V : Type 0} where
       -- a read gives the value of the last write before it, or the first value
       pub last-write : (y : Placed) → y .sort ≡ read
           → (((x : Placed) → x .sort ≡ write → StandsBefore x y → ⊥) × (y .value ≡ first))
-            ⊎ ((x : Placed) × (x .sort ≡ write) × StandsBefore x y × (y .value ≡ x .value)
-              × ((z : Placed) → z .sort ≡ write → StandsBefore z y → (z .job ≡ x .job) ⊎ StandsBefore z x))
+          ⊎ ((x : Placed) × (x .sort ≡ write) × StandsBefore x y × (y .value ≡ x .value)
+          × ((z : Placed) → z .sort ≡ write → StandsBefore z y → (z .job ≡ x .job) ⊎ StandsBefore z x))
 
   -- the order of jobs of every run that follows an opening
   abbrev pub OrderOfJobs : (ℕ → Type 0) → First V → ℕ → ℕ → ℕ → ℕ → Type 0

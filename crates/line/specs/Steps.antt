@@ -106,9 +106,9 @@ module _ {V : Type 0} where
     Tags w h x q r after =
         (g : ℕ) × Greatest w q g
         × (((2 ^ 28 - 1 ≤ g) × Answer answer.Spent (note (hold w s (at-stage h Spent)) (spent-row w s (h .job))) r after)
-          ⊎ ((g < 2 ^ 28 - 1)
-            × (let p : Pair V = record { tag = record { count = g + 1; owner = s }; value = x } in
-               Second (note (change w s (g + 1) (Some h) (w .answers s)) (tagged-row s (h .job) p)) h p 0 r after)))
+        ⊎ ((g < 2 ^ 28 - 1)
+        × (let p : Pair V = record { tag = record { count = g + 1; owner = s }; value = x } in
+        Second (note (change w s (g + 1) (Some h) (w .answers s)) (tagged-row s (h .job) p)) h p 0 r after)))
 
     -- a read with the quorum q: as it is judged
     abbrev pub Reads : View V → Hand V → ℕ → Verdict → ℕ → Result Delivered Refusal → View V → Type 0
@@ -137,7 +137,7 @@ module _ {V : Type 0} where
         let counted = bitOr took (2 ^ c) in
         (Picked F counted None × Answer answer.Kept (hold v s (at-stage h (Setting p strikes counted))) r after)
         ⊎ ((q : ℕ) × Picked F counted (Some q)
-          × Answer answer.Ended (note (hold v s (at-stage h (Ended p 2 strikes))) (ended-row s (h .job) p 2 strikes)) r after)
+        × Answer answer.Ended (note (hold v s (at-stage h (Ended p 2 strikes))) (ended-row s (h .job) p 2 strikes)) r after)
 
     -- what a telegram does depends on the stage of the station's job and on its kind
     abbrev pub AtStation : Hand V → Stage V → TelegramKind V → Result Delivered Refusal → View V → Type 0

@@ -24,8 +24,16 @@ pub enum Stage<V> {
     // the first trip: cabinets are asked for their pairs
     Querying,
     // the second trip: the cabinets that took the pair are counted
-    Setting { pair: Pair<V>, strikes: u8, took: u16 },
-    Ended { pair: Pair<V>, trips: u8, strikes: u8 },
+    Setting {
+        pair: Pair<V>,
+        strikes: u8,
+        took: u16,
+    },
+    Ended {
+        pair: Pair<V>,
+        trips: u8,
+        strikes: u8,
+    },
     // over without a tag, since the counts have run out
     Spent,
 }

@@ -21,7 +21,8 @@ use words::refusal::Refusal;
 use words::refusal::RefusalDisplay;
 use words::tag::Tag;
 
-const USAGE: &str = "usage: plan majority N | table N SET.. | grid ROWS COLUMNS, with requests on standard input";
+const USAGE: &str =
+    "usage: plan majority N | table N SET.. | grid ROWS COLUMNS, with requests on standard input";
 
 // The quorum that the system picks from the set.
 fn pick_line<S: QuorumSystem>(heap: Global, system: &S, set: u16) -> Result<String, AnyError> {
