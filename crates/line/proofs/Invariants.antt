@@ -4,8 +4,7 @@ use mathlib.Core.Logic.{_⊎_}
 use mathlib.Core.List.{List, [], _∷_}
 use Prim.Native.Nat.{ℕ, _≤_, _<_}
 use Rattle.std.specs.Finite.{nth}
-use Rattle.std.specs.declared.option.Option.{Option}
-use Rattle.std.specs.declared.option.Option.the-variants.{Some, None}
+use Rattle.std.specs.declared.option.Option.the-variants.{Some}
 use Rattle.words.specs.declared.tag.Tag.{Tag}
 use Rattle.words.specs.Tags.{Before, Upto}
 use Rattle.telegrams.specs.declared.Pair.{Pair}
@@ -14,7 +13,6 @@ use Rattle.telegrams.specs.declared.TelegramKind.{TelegramKind}
 use Rattle.telegrams.specs.declared.TelegramKind.the-variants.{Query, Told, Set, Took}
 use Rattle.quorums.specs.Sets.{Member}
 use Rattle.line.specs.declared.types.Hand.{Hand}
-use Rattle.line.specs.declared.types.Row.{Row}
 use Rattle.line.specs.declared.types.Stage.{Stage}
 use Rattle.line.specs.declared.types.Stage.the-variants.{Querying, Setting, Ended, Spent}
 use Rattle.line.specs.declared.types.Work.{Work}

@@ -1,15 +1,14 @@
 -- The moves that calls are made of, each of which keeps what holds of a line.
 use mathlib.Core.Path.{_≡_, _∙_, refl, sym, ap, subst}
-use mathlib.Core.Bool.{cond}
 use mathlib.Core.Logic.{_⊎_, _≢_, inl, inr, ⊎-elim}
 use mathlib.Core.List.{List, [], _∷_, _++_}
-use Prim.Native.Nat.{ℕ, zero, suc, _+_, _-_, _≤_, _<_}
+use Prim.Native.Nat.{ℕ, zero, suc, _-_, _≤_, _<_}
 use native.Mathlib.Omega.{arith}
 use lib.Dec.{eqb}
 use lib.ListN.{length, getD, set}
 use Rattle.std.specs.Finite.{nth}
 use Rattle.std.specs.declared.option.Option.{Option}
-use Rattle.std.specs.declared.option.Option.the-variants.{Some, None}
+use Rattle.std.specs.declared.option.Option.the-variants.{Some}
 use Rattle.std.proofs.shelf.Lists.{getD-set-other, getD-set-same, set-past}
 use Rattle.std.proofs.shelf.Tests.{cases-eq, cases-lt, cond-true, cond-false, eq-eqb, ne-eqb}
 use Rattle.words.specs.declared.tag.Tag.{Tag}
@@ -27,8 +26,8 @@ use Rattle.line.specs.declared.types.Stage.the-variants.{Querying, Setting, En
 use Rattle.line.specs.declared.types.Station.{Station}
 use Rattle.line.specs.declared.types.Work.{Work}
 use Rattle.line.specs.declared.types.Work.the-variants.{Write, Read}
-use Rattle.line.specs.Lines.{View, begin-row, change, ended-row, first-pair, hand-of, idle, last-of, note, replica, send, station-at, store, tagged-row, with-bus}
-use Rattle.line.proofs.Invariants.{AboveEnded, Among, Begun, Carries, Earned, EndedFits, EndedRow, Guard, Inv, KindFits, Known, SetFits, Sound, StageFits, TaggedFits, TaggedRow, TookFits}
+use Rattle.line.specs.Lines.{View, change, ended-row, first-pair, hand-of, idle, last-of, note, replica, station-at, store, tagged-row, with-bus}
+use Rattle.line.proofs.Invariants.{AboveEnded, Among, Begun, Carries, Earned, EndedFits, EndedRow, Guard, Inv, KindFits, Known, Sound, StageFits, TaggedFits, TookFits}
 
 -- places of a list
 pub nth-below : {X : Type 0} (xs : List X) (i : ℕ) (x : X) → nth xs i ≡ Some x → i < length xs

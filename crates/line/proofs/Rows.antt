@@ -1,14 +1,14 @@
 -- Lists of telegrams, and rows that differ in kind.
-use mathlib.Core.Path.{_≡_, _∙_, refl, sym, ap, subst}
+use mathlib.Core.Path.{_≡_, refl, ap}
 use mathlib.Core.Logic.{_⊎_, inl, inr, ⊎-elim}
 use mathlib.Core.List.{List, [], _∷_, _++_, map}
-use Prim.Native.Nat.{ℕ, zero, suc, _+_, _<_}
+use Prim.Native.Nat.{ℕ, zero, suc, _+_}
 use native.Mathlib.Omega.{arith}
-use lib.ListN.{length, take, drop}
+use lib.ListN.{take, drop}
 use Rattle.std.specs.Finite.{nth}
 use Rattle.std.specs.Holes.{removed}
 use Rattle.std.specs.Iters.{counting}
-use Rattle.std.specs.declared.option.Option.the-variants.{Some, None}
+use Rattle.std.specs.declared.option.Option.the-variants.{Some}
 use Rattle.telegrams.specs.declared.Pair.{Pair}
 use Rattle.line.specs.declared.types.Row.{Row}
 use Rattle.line.specs.declared.types.RowKind.{RowKind}

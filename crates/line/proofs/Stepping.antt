@@ -1,34 +1,24 @@
 -- Every step keeps what holds of a line, and what it adds to the journal.
 use mathlib.Core.Path.{_≡_, _∙_, refl, sym, ap, subst}
-use mathlib.Core.Bool.{Bool, true, false, cond}
+use mathlib.Core.Bool.{Bool, true, false}
 use mathlib.Core.Logic.{_⊎_, inl, inr, ⊎-elim}
-use mathlib.Core.List.{List, [], _∷_, _++_, map}
+use mathlib.Core.List.{[], _∷_, _++_}
 use Prim.Native.Nat.{ℕ, _+_, _-_, _^_, _≤_, _<_}
 use native.Mathlib.Omega.{arith}
-use native.Mathlib.Nat.{zero-add}
 use lib.Bits.{bitOr}
-use lib.Dec.{eqb}
-use lib.ListN.{length, getD, set}
+use lib.ListN.{length}
 use Rattle.std.specs.Finite.{nth}
 use Rattle.std.specs.Holes.{removed}
-use Rattle.std.specs.Iters.{counting}
 use Rattle.std.specs.declared.option.Option.{Option}
 use Rattle.std.specs.declared.option.Option.the-variants.{Some, None}
-use Rattle.std.proofs.shelf.Counted.{getD-map-counting}
-use Rattle.std.proofs.shelf.Bits.{pow-pos}
 use Rattle.std.proofs.shelf.Lists.{length-set}
-use Rattle.std.proofs.shelf.Tests.{cases-eq, cond-true, cond-false, eq-eqb, ne-eqb}
 use Rattle.words.specs.declared.tag.Tag.{Tag}
-use Rattle.words.specs.Tags.{Before, Upto}
-use Rattle.words.proofs.TagOrders.{tag-order}
 use Rattle.telegrams.specs.declared.Pair.{Pair}
 use Rattle.telegrams.specs.declared.Telegram.{Telegram}
 use Rattle.telegrams.specs.declared.TelegramKind.{TelegramKind}
 use Rattle.telegrams.specs.declared.TelegramKind.the-variants.{Query, Told, Set, Took}
-use Rattle.quorums.specs.Sets.{Inside, Member, Picked, Share}
-use Rattle.quorums.proofs.Members.{below, bit-high, with-cases}
+use Rattle.quorums.specs.Sets.{Inside, Member}
 use Rattle.views.specs.Views.{Judged, told}
-use Rattle.views.proofs.Laws.{lawful}
 use Rattle.views.specs.declared.Verdict.the-variants.{OneTrip, SecondTrip}
 use Rattle.line.specs.declared.types.Hand.{Hand}
 use Rattle.line.specs.declared.types.Row.{Row}
@@ -46,13 +36,13 @@ use Rattle.line.specs.declared.types.Delivered.the-variants as answer
 use Rattle.line.specs.Runs.{Event, Laws, Step, began, claimed, collected, delivered, doubled, gave-up, lost, shelved}
 use Rattle.line.specs.declared.types.Collected.{Collected}
 use Rattle.line.specs.Steps.{AtHand, AtStation, Begins, Chosen, Claims, Collects, Delivers, Doubles, Fits, GivesUp, Handed, Loses, Reads, Second, Shelves, Tags, Takes, Tells, begun, with-shelf}
-use Rattle.line.specs.Lines.{IsStation, View, at-stage, begin-row, change, ended-row, first-pair, given-row, hand-of, hold, last-of, note, put, replica, reply, send, size, spent-row, store, tag-of, tagged-row, to-all, told-tags, with-bus}
-use Rattle.line.proofs.Invariants.{AboveEnded, Among, Begun, Carries, Earned, EndedFits, EndedRow, Guard, Inv, KindFits, Known, SetFits, Sound, StageFits, TaggedFits, TaggedRow, TookFits}
-use Rattle.line.proofs.Moves.{Asked, New, here, inv-bus, inv-change, inv-note, nth-below, nth-cases, nth-kept, nth-last}
-use Rattle.line.proofs.Keeps.{free, keep, keeps-begin, like, no-member, none-some, off, off-and-on, over, put-here, put-other, querying, setting, some-same, upto-same}
+use Rattle.line.specs.Lines.{IsStation, View, at-stage, begin-row, change, ended-row, given-row, hand-of, hold, last-of, note, replica, reply, send, size, spent-row, store, tagged-row, told-tags, with-bus}
+use Rattle.line.proofs.Invariants.{Among, Begun, EndedRow, Inv, TaggedRow}
+use Rattle.line.proofs.Moves.{here, inv-bus, inv-note, nth-kept, nth-last}
+use Rattle.line.proofs.Keeps.{free, keep, keeps-begin, like, off, some-same}
 use Rattle.line.proofs.Deliveries.{keeps-passed, keeps-query, keeps-sets, keeps-stored}
 use Rattle.line.proofs.Tellings.{keeps-counted, keeps-one-trip, keeps-second, keeps-setting, keeps-spent, keeps-tag, keeps-told, keeps-took, told-hand, told-held, told-view}
-use Rattle.line.proofs.Rows.{among-append, among-counted, among-removed, begin-not-ended, begin-not-tagged, ended-not-tagged, given-not-ended, given-not-tagged, nth-among, spent-not-ended, spent-not-tagged, tagged-not-ended}
+use Rattle.line.proofs.Rows.{among-append, given-not-ended, given-not-tagged, nth-among}
 
 -- different answers
 code : Delivered → ℕ

@@ -1,32 +1,24 @@
 -- A telling at a station keeps what holds of a line: kept, tagged, spent, judged.
 use mathlib.Core.Path.{_≡_, _∙_, refl, sym, ap, subst}
-use mathlib.Core.Bool.{Bool, true, false, cond}
-use mathlib.Core.Logic.{_⊎_, inl, inr, ⊎-elim}
-use mathlib.Core.List.{List, [], _∷_, _++_, map}
+use mathlib.Core.Logic.{inr, ⊎-elim}
 use Prim.Native.Nat.{ℕ, _+_, _-_, _^_, _≤_, _<_}
 use native.Mathlib.Omega.{arith}
 use native.Mathlib.Nat.{zero-add}
 use lib.Bits.{bitOr}
-use lib.Dec.{eqb}
-use lib.ListN.{length, getD, set}
-use Rattle.std.specs.Finite.{nth}
-use Rattle.std.specs.Holes.{removed}
-use Rattle.std.specs.Iters.{counting}
-use Rattle.std.specs.declared.option.Option.{Option}
-use Rattle.std.specs.declared.option.Option.the-variants.{Some, None}
+use lib.ListN.{length}
+use Rattle.std.specs.declared.option.Option.the-variants.{Some}
 use Rattle.std.proofs.shelf.Counted.{getD-map-counting}
-use Rattle.std.proofs.shelf.Bits.{pow-pos}
-use Rattle.std.proofs.shelf.Lists.{getD-set-same, length-set}
-use Rattle.std.proofs.shelf.Tests.{cases-eq, cond-true, cond-false, eq-eqb, ne-eqb}
+use Rattle.std.proofs.shelf.Lists.{length-set}
+use Rattle.std.proofs.shelf.Tests.{cases-eq}
 use Rattle.words.specs.declared.tag.Tag.{Tag}
-use Rattle.words.specs.Tags.{Before, Upto}
+use Rattle.words.specs.Tags.{Upto}
 use Rattle.words.proofs.TagOrders.{tag-order}
 use Rattle.telegrams.specs.declared.Pair.{Pair}
 use Rattle.telegrams.specs.declared.Telegram.{Telegram}
 use Rattle.telegrams.specs.declared.TelegramKind.{TelegramKind}
-use Rattle.telegrams.specs.declared.TelegramKind.the-variants.{Query, Told, Set, Took}
-use Rattle.quorums.specs.Sets.{Inside, Member, Picked, Share}
-use Rattle.quorums.proofs.Members.{below, bit-high, with-cases}
+use Rattle.telegrams.specs.declared.TelegramKind.the-variants.{Told, Took}
+use Rattle.quorums.specs.Sets.{Inside, Member, Share}
+use Rattle.quorums.proofs.Members.{below, with-cases}
 use Rattle.views.specs.Views.{Judged, told}
 use Rattle.views.proofs.Laws.{lawful}
 use Rattle.views.specs.declared.Verdict.the-variants.{OneTrip, SecondTrip}
@@ -37,12 +29,12 @@ use Rattle.line.specs.declared.types.Stage.the-variants.{Querying, Setting, En
 use Rattle.line.specs.declared.types.Station.{Station}
 use Rattle.line.specs.declared.types.Work.{Work}
 use Rattle.line.specs.declared.types.Work.the-variants.{Write, Read}
-use Rattle.line.specs.Lines.{View, at-stage, begin-row, change, ended-row, first-pair, given-row, hand-of, hold, last-of, note, put, replica, reply, send, size, spent-row, store, tag-of, tagged-row, to-all, told-tags, with-bus}
-use Rattle.line.proofs.Invariants.{AboveEnded, Among, Begun, Carries, Earned, EndedFits, EndedRow, Guard, Inv, KindFits, Known, SetFits, Sound, StageFits, TaggedFits, TaggedRow, TookFits}
-use Rattle.line.proofs.Moves.{Asked, New, above-note, begun-note, earned-note, here, inv-bus, inv-change, inv-note, inv-store, known-note, nth-below, nth-cases, nth-last}
-use Rattle.line.proofs.Keeps.{keep, like, no-member, none-some, off, off-and-on, over, put-here, put-other, querying, setting, some-same, upto-same}
-use Rattle.line.proofs.Deliveries.{keeps-end, keeps-sets}
-use Rattle.line.proofs.Rows.{among-append, among-counted, among-removed, begin-not-ended, begin-not-tagged, ended-not-tagged, given-not-ended, given-not-tagged, nth-among, spent-not-ended, spent-not-tagged, tagged-not-ended}
+use Rattle.line.specs.Lines.{View, at-stage, change, ended-row, hand-of, hold, last-of, note, put, replica, size, spent-row, tag-of, tagged-row, told-tags}
+use Rattle.line.proofs.Invariants.{Among, Begun, Carries, Earned, EndedRow, Inv, KindFits, Known, StageFits, TaggedFits, TaggedRow, TookFits}
+use Rattle.line.proofs.Moves.{begun-note, here, inv-change, inv-note, nth-below, nth-cases, nth-last}
+use Rattle.line.proofs.Keeps.{keep, like, no-member, put-here, put-other, querying, setting, some-same}
+use Rattle.line.proofs.Deliveries.{keeps-end}
+use Rattle.line.proofs.Rows.{spent-not-ended, spent-not-tagged, tagged-not-ended}
 
 module _ {V : Type 0} (F : ℕ → Type 0) (share : (p q : ℕ) → F p → F q → Share p q) (member : (q : ℕ) → F q → (k : ℕ) × Member k q) where
   -- the telling is kept

@@ -1,9 +1,7 @@
 -- What a line's memory holds, with the dead places cut off, and the parts that steps speak of.
-use mathlib.Core.Path.{_≡_}
-use mathlib.Core.Bool.{Bool, cond}
+use mathlib.Core.Bool.{cond}
 use mathlib.Core.List.{List, [], _∷_, _++_, map}
-use Prim.Native.Nat.{ℕ, _+_, _-_, _*_, _/_, _%_, _^_, _≤_, _<_}
-use lib.Bits.{bitOr}
+use Prim.Native.Nat.{ℕ, _+_, _-_, _*_, _/_, _%_, _^_, _≤_}
 use lib.Dec.{eqb}
 use lib.ListN.{length, getD, set, take}
 use denote.Ref.{now}
@@ -15,7 +13,6 @@ use Rattle.words.specs.declared.tag.Tag.{Tag}
 use Rattle.telegrams.specs.declared.Pair.{Pair}
 use Rattle.telegrams.specs.declared.Telegram.{Telegram}
 use Rattle.telegrams.specs.declared.TelegramKind.{TelegramKind}
-use Rattle.telegrams.specs.declared.TelegramKind.the-variants.{Query, Told, Set, Took}
 use Rattle.line.specs.declared.types.First.{First}
 use Rattle.line.specs.declared.types.Hand.{Hand}
 use Rattle.line.specs.declared.types.Memory.{Memory}

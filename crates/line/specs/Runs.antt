@@ -2,13 +2,12 @@
 use mathlib.Core.Path.{_≡_}
 use mathlib.Core.Logic.{_⊎_}
 use mathlib.Core.List.{List, [], _∷_}
-use Prim.Native.Nat.{ℕ, _+_, _≤_, _<_}
+use Prim.Native.Nat.{ℕ, _≤_, _<_}
 use lib.ListN.{length, replicate}
 use Rattle.std.specs.Finite.{nth}
-use Rattle.std.specs.declared.option.Option.{Option}
 use Rattle.std.specs.declared.option.Option.the-variants.{Some, None}
 use Rattle.std.specs.declared.result.Result.{Result}
-use Rattle.std.specs.declared.result.Result.the-variants.{Ok, Err}
+use Rattle.std.specs.declared.result.Result.the-variants.{Ok}
 use Rattle.words.specs.declared.refusal.Refusal.{Refusal}
 use Rattle.words.specs.declared.tag.Tag.{Tag}
 use Rattle.words.specs.Tags.{Before}
@@ -20,7 +19,6 @@ use Rattle.line.specs.declared.types.Delivered.{Delivered}
 use Rattle.line.specs.declared.types.Delivered.the-variants as answer
 use Rattle.line.specs.declared.types.First.{First}
 use Rattle.line.specs.declared.types.Hand.{Hand}
-use Rattle.line.specs.declared.types.Stage.{Stage}
 use Rattle.line.specs.declared.types.Stage.the-variants.{Setting, Ended}
 use Rattle.line.specs.declared.types.Work.{Work}
 use Rattle.line.specs.declared.types.Work.the-variants.{Write, Read}

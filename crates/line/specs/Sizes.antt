@@ -3,7 +3,6 @@ use mathlib.Core.Path.{_≡_}
 use Prim.Native.Nat.{ℕ, _*_, _≤_}
 use lib.ListN.{length}
 use denote.Ref.{now}
-use Rattle.line.specs.declared.types.First.{First}
 use Rattle.line.specs.declared.types.Memory.{Memory}
 
 abbrev pub Sized : {V : Type 0} → ℕ → Memory V → Type 0

@@ -1,7 +1,7 @@
 -- What each call answers and leaves, for every line and every arguments.
 use mathlib.Core.Path.{_≡_}
 use mathlib.Core.Logic.{_⊎_}
-use mathlib.Core.List.{List, [], _∷_, _++_}
+use mathlib.Core.List.{[], _∷_}
 use Prim.Native.Nat.{ℕ, _+_, _-_, _^_, _≤_, _<_}
 use lib.Bits.{bitOr}
 use lib.ListN.{length}
