@@ -26,10 +26,10 @@ use Rattle.line.specs.declared.types.Work.{Work}
 use Rattle.line.specs.declared.types.Work.the-variants.{Write, Read}
 use Rattle.std.specs.declared.result.Result.the-variants.{Ok}
 use Rattle.line.specs.declared.types.Delivered.the-variants as answer
-use Rattle.line.specs.Runs.{AtEqualTags, AtTime, BeginsAt, EndedAt, EndsAt, Event, Got, Laws, Moment, OrderOfJobs, Placed, Run, Sort, StandsBefore, Step, TripsAt, began, more, none, opened, read, work-of, write}
+use Rattle.line.specs.Runs.{AtEqualTags, AtTime, BeginsAt, EndedAt, EndsAt, Event, Got, Laws, Moment, OrderOfJobs, Placed, Run, Shown, Sort, StandsBefore, Step, TripsAt, began, more, none, opened, read, work-of, write}
 use Rattle.line.specs.declared.types.First.{First}
 use Rattle.line.specs.Steps.{Begins, Delivers, begun}
-use Rattle.line.specs.Lines.{View, begin-row, first-pair, hand-of, idle, size}
+use Rattle.line.specs.Lines.{View, begin-row, first-pair, hand-of, idle, size, tagged-row}
 use Rattle.line.proofs.Invariants.{AboveEnded, Begun, Earned, EndedRow, Inv, TaggedRow}
 use Rattle.line.proofs.Rows.{begin-work}
 use Rattle.line.proofs.Keeps.{none-some, some-same}
@@ -403,5 +403,36 @@ module _ {V : Type 0} (F : ℕ → Type 0) (n : ℕ) (laws : Laws F n) (first : 
         ))
         (inv-v .ended (w .0) (y .station) (y .job) p (w .2) .known)
 
+    -- the value of a write's tagged row
+    write-value : (x : Placed ms) → x .sort ≡ write → (k : ℕ) (p : Pair V) → TaggedRow v k (x .station) (x .job) p → p .value ≡ x .value
+    write-value x is k p row =
+        let begun-x : Begun v (x .station) (x .job) (Write (x .value)) = subst (λ (sort : Sort). Begun v (x .station) (x .job) (work-of ms sort (x .value))) is (begun-of x .0) in
+        ap (λ (r : Row V). r .value) (some-same (sym (inv-v .tagged k (x .station) (x .job) p row .begun) ∙ begun-x))
+
+    tagged-shown : (x : Placed ms) → x .sort ≡ write → (k : ℕ) × (nth (v .journal) k ≡ Some (tagged-row (x .station) (x .job) (record { tag = x .tag; value = x .value })))
+    tagged-shown x is =
+        let w = write-row x is in
+        (w .0, w .2 ∙ (λ i. Some (tagged-row (x .station) (x .job) (record { tag = w .3 i; value = write-value x is (w .0) (w .1) (w .2) i }))))
+
+    -- the value with which a placed job ended
+    ended-value : (x : Placed ms) (sort : Sort) → x .sort ≡ sort → (i : ℕ) (p : Pair V) → EndedRow v i (x .station) (x .job) p → p .value ≡ x .value
+    ended-value x write is i p row =
+        let w = write-row x is in
+        sym (ap (λ (z : Pair V). z .value) (once-v .both (w .0) i (x .station) (x .job) (w .1) p (w .2) row)) ∙ write-value x is (w .0) (w .1) (w .2)
+    ended-value x read is i p row =
+        let w = read-row x is in
+        ap (λ (z : Pair V). z .value) (once-v .ended i (w .0) (x .station) (x .job) p (w .1) row (w .2)) ∙ w .4
+
+    shown : Shown ms v
+    shown = record {
+      stays = λ k m2 i row at. past k m2 run at .grows i row;
+      begun = λ k m2 s job work at begins. let b = begin-fact run k m2 s job work at begins in (b .1, b .0);
+      tagged = tagged-shown;
+      ended = λ x k m2 p at ends.
+          let row = end-fact run k m2 (x .station) (x .job) p at ends .0 in
+          (ended-tag x (x .sort) refl _ p row, ended-value x (x .sort) refl _ p row, row);
+    }
+
   pub order-of-jobs : OrderOfJobs F first n m bus-places journal-places
-  order-of-jobs ms v run = record { total = total run; one-way = one-way run; in-time = in-time run; last-write = last-write run }
+  order-of-jobs ms v run =
+      (record { total = total run; one-way = one-way run; in-time = in-time run; last-write = last-write run }, shown run)

@@ -19,10 +19,11 @@ use Rattle.line.specs.declared.types.Delivered.{Delivered}
 use Rattle.line.specs.declared.types.Delivered.the-variants as answer
 use Rattle.line.specs.declared.types.First.{First}
 use Rattle.line.specs.declared.types.Hand.{Hand}
+use Rattle.line.specs.declared.types.Row.{Row}
 use Rattle.line.specs.declared.types.Stage.the-variants.{Setting, Ended}
 use Rattle.line.specs.declared.types.Work.{Work}
 use Rattle.line.specs.declared.types.Work.the-variants.{Write, Read}
-use Rattle.line.specs.Lines.{View, hand-of, idle}
+use Rattle.line.specs.Lines.{View, begin-row, ended-row, hand-of, idle, tagged-row}
 use Rattle.line.specs.Steps.{Begins, Claims, Collects, Delivers, Doubles, GivesUp, Loses, Shelves}
 
 -- the laws of a quorum system of n cabinets
@@ -162,7 +163,18 @@ module _ {V : Type 0} where
           ⊎ ((x : Placed) × (x .sort ≡ write) × StandsBefore x y × (y .value ≡ x .value)
           × ((z : Placed) → z .sort ≡ write → StandsBefore z y → (z .job ≡ x .job) ⊎ StandsBefore z x))
 
+    -- The journal shows it. A row's number is how many rows stood before its call, and rows stay.
+    pub record Shown (v : View V) : Type 0 where
+      pub stays : (k : ℕ) (m : Moment V) (i : ℕ) (row : Row V) → AtTime ms k m → nth (m .after .journal) i ≡ Some row → nth (v .journal) i ≡ Some row
+      pub begun : (k : ℕ) (m : Moment V) (s job : ℕ) (work : Work V) → AtTime ms k m → BeginsAt m s job work
+          → (job ≡ length (m .before .journal)) × (nth (v .journal) job ≡ Some (begin-row v s job work))
+      pub tagged : (x : Placed) → x .sort ≡ write
+          → (k : ℕ) × (nth (v .journal) k ≡ Some (tagged-row (x .station) (x .job) (record { tag = x .tag; value = x .value })))
+      pub ended : (x : Placed) (k : ℕ) (m : Moment V) (p : Pair V) → AtTime ms k m → EndsAt m (x .station) (x .job) p
+          → (p .tag ≡ x .tag) × (p .value ≡ x .value)
+          × ((trips : ℕ) × (strikes : ℕ) × (nth (v .journal) (length (m .before .journal)) ≡ Some (ended-row (x .station) (x .job) p trips strikes)))
+
   -- the order of jobs of every run that follows an opening
   abbrev pub OrderOfJobs : (ℕ → Type 0) → First V → ℕ → ℕ → ℕ → ℕ → Type 0
   OrderOfJobs F first n m bus-places journal-places =
-      (ms : List (Moment V)) (v : View V) → Run F (opened first n m bus-places journal-places) ms v → Ordered ms (first .value)
+      (ms : List (Moment V)) (v : View V) → Run F (opened first n m bus-places journal-places) ms v → Ordered ms (first .value) × Shown ms v
