@@ -38,7 +38,7 @@ use Rattle.line.specs.Lines.{IsStation, View, at-stage, begin-row, change, end
 use Rattle.line.proofs.Invariants.{EndedRow, Inv, TaggedRow}
 use Rattle.line.proofs.Rows.{begin-not-ended, begin-not-tagged, ended-not-tagged, given-not-ended, given-not-tagged, spent-not-ended, spent-not-tagged, tagged-not-ended}
 use Rattle.line.proofs.Keeps.{none-some, some-same}
-use Rattle.line.proofs.Moves.{nth-below, nth-cases}
+use Rattle.line.proofs.Moves.{nth-below, nth-cases, nth-kept, nth-last}
 
 -- the pair of a row
 row-pair : {V : Type 0} → Row V → Pair V
@@ -69,7 +69,7 @@ module _ {V : Type 0} where
   abbrev pub Phase : View V → ℕ → ℕ → Stage V → Type 0
   Phase v s job Querying = NoTagged v s job × NoEnded v s job
   Phase v s job (Setting p strikes took) = TaggedAs v s job p × NoEnded v s job
-  Phase v s job (Ended p trips strikes) = TaggedAs v s job p × EndedAs v s job p
+  Phase v s job (Ended p trips strikes) = TaggedAs v s job p × EndedAs v s job p × ((i : ℕ) × EndedRow v i s job p)
   Phase v s job Spent = NoTagged v s job × NoEnded v s job
 
   pub record Once (v : View V) : Type 0 where
@@ -109,7 +109,11 @@ module _ {V : Type 0} where
         λ r job. elim [
           | Querying ↦ λ f. ((λ k u e. f .0 k u (back k _ e)), (λ i u e. f .1 i u (end i r job u e)))
           | Setting p a b ↦ λ f. ((λ k u e. f .0 k u (back k _ e)), (λ i u e. f .1 i u (end i r job u e)))
-          | Ended p a b ↦ λ f. ((λ k u e. f .0 k u (back k _ e)), (λ i u e. f .1 i u (end i r job u e)))
+          | Ended p a b ↦ λ f. (
+            (λ k u e. f .0 k u (back k _ e)),
+            (λ i u e. f .1 i u (end i r job u e)),
+            (f .2 .0, (f .2 .1 .0, f .2 .1 .1, ap (λ (xs : List (Row V)). nth xs (f .2 .0)) journal ∙ f .2 .1 .2)),
+          )
           | Spent ↦ λ f. ((λ k u e. f .0 k u (back k _ e)), (λ i u e. f .1 i u (end i r job u e)))
         ] in
         record {
@@ -140,6 +144,7 @@ module _ {V : Type 0} where
           | Ended p a b ↦ λ ne f. (
             (λ k u e. ⊎-elim (f .0 k u) (λ n. absurd (ne (fits .0 r job u n .0))) (cases k _ e)),
             (λ i u e. ⊎-elim (λ o. f .1 i u (e .0, e .1, o)) (λ n. absurd (ne (fits .1 r job u (e .0) (e .1) n .0))) (cases i _ (e .2))),
+            (f .2 .0, (f .2 .1 .0, f .2 .1 .1, ap (λ (xs : List (Row V)). nth xs (f .2 .0)) journal ∙ nth-kept (v .journal) row (f .2 .0) _ (f .2 .1 .2))),
           )
           | Spent ↦ λ ne f. (
             (λ k u e. ⊎-elim (f .0 k u) (λ n. ne (fits .0 r job u n .0)) (cases k _ e)),
@@ -308,6 +313,7 @@ module _ {V : Type 0} where
               subst (λ (g : Hand V). Phase (note v row) s (g .job) (g .stage)) (some-same eq) (
                 tagged-as-more v row s (h .job) u (λ o n. absurd (ended-not-tagged s (h .job) u 1 strikes s (h .job) o n)) (nothing-tagged u),
                 ended-as-more v row s (h .job) u (λ o c d n. sym (same-ended s (h .job) s (h .job) 1 strikes c d u o n)) (λ i o r. absurd (none .1 i o r)),
+                (length (v .journal), (1, strikes, nth-last (v .journal) row)),
               ))
               row refl (end-fits v s (h .job) u (nothing-tagged u) (none .1) 1 strikes)
 
@@ -352,6 +358,7 @@ module _ {V : Type 0} where
           subst (λ (g : Hand V). Phase (note v row) s (g .job) (g .stage)) (some-same eq) (
             tagged-as-more v row s (h .job) p (λ o n. absurd (ended-not-tagged s (h .job) p 2 strikes s (h .job) o n)) (rows .0),
             ended-as-more v row s (h .job) p (λ o c d n. sym (same-ended s (h .job) s (h .job) 2 strikes c d p o n)) (λ i o m. absurd (rows .1 i o m)),
+            (length (v .journal), (2, strikes, nth-last (v .journal) row)),
           ))
           row refl (end-fits v s (h .job) p (rows .0) (rows .1) 2 strikes)))
 

@@ -20,21 +20,25 @@ use Rattle.line.specs.declared.types.Row.{Row}
 use Rattle.line.specs.declared.types.RowKind.{RowKind}
 use Rattle.line.specs.declared.types.RowKind.the-variants as kind
 use Rattle.line.specs.declared.types.Stage.{Stage}
-use Rattle.line.specs.declared.types.Stage.the-variants.{Setting, Ended}
+use Rattle.line.specs.declared.types.Stage.the-variants.{Querying, Setting, Ended, Spent}
+use Rattle.line.specs.declared.types.Collected.{Collected}
+use Rattle.line.specs.declared.types.Collected.the-variants as result
 use Rattle.line.specs.declared.types.Station.{Station}
 use Rattle.line.specs.declared.types.Work.{Work}
 use Rattle.line.specs.declared.types.Work.the-variants.{Write, Read}
-use Rattle.std.specs.declared.result.Result.the-variants.{Ok}
+use Rattle.std.specs.declared.result.Result.{Result}
+use Rattle.std.specs.declared.result.Result.the-variants.{Ok, Err}
+use Rattle.words.specs.declared.refusal.Refusal.{Refusal}
 use Rattle.line.specs.declared.types.Delivered.the-variants as answer
-use Rattle.line.specs.Runs.{AtEqualTags, AtTime, BeginsAt, EndedAt, EndsAt, Event, Got, Laws, Moment, OrderOfJobs, Placed, Run, Shown, Sort, StandsBefore, Step, TripsAt, began, more, none, opened, read, work-of, write}
+use Rattle.line.specs.Runs.{AtEqualTags, AtTime, BeginsAt, EndedAt, EndsAt, Event, Got, Laws, Moment, OrderOfJobs, Placed, Run, Shown, Sort, StandsBefore, Step, TripsAt, began, collected, more, none, opened, read, work-of, write}
 use Rattle.line.specs.declared.types.First.{First}
-use Rattle.line.specs.Steps.{Begins, Delivers, begun}
+use Rattle.line.specs.Steps.{Begins, Collects, Delivers, Over, begun}
 use Rattle.line.specs.Lines.{View, begin-row, first-pair, hand-of, idle, size, tagged-row}
 use Rattle.line.proofs.Invariants.{AboveEnded, Begun, Earned, EndedRow, Inv, TaggedRow}
 use Rattle.line.proofs.Rows.{begin-work}
 use Rattle.line.proofs.Keeps.{none-some, some-same}
 use Rattle.line.proofs.Moves.{nth-below}
-use Rattle.line.proofs.Onces.{Once, step-once}
+use Rattle.line.proofs.Onces.{Phase, Once, step-once}
 use Rattle.line.proofs.Sources.{step-rows}
 use Rattle.line.proofs.Stepping.{Grows, begin-shown, deliver-shown, step-good}
 
@@ -55,6 +59,26 @@ write-not-read v s job y e = let kinds : kind.Write ≡ kind.Read = ap kind-of-r
 all-one : {X : Type 0} (m k : ℕ) (x : X) → getD (replicate m x) k x ≡ x
 all-one m k x =
     ⊎-elim (λ l. getD-replicate m k x x l) (λ l. getD-past (replicate m x) k x (simp length-replicate l)) (cases-lt k m)
+
+-- what a collect that told a pair found
+module _ {V : Type 0} where
+  collect-refused : {A : Type 0} (got : Collected V) (x : Refusal) → _≡_ {A = Result (Collected V) Refusal} (Ok got) (Err x) → A
+  collect-refused got x e = let z : _≡_ {A = ℕ} 0 1 = cc in absurd (omega arith)
+
+  over-row : (v : View V) (s job : ℕ) (p : Pair V) (trips : ℕ) (st : Stage V) → Phase v s job st → Over st (result.Got p trips) → (i : ℕ) × EndedRow v i s job p
+  over-row v s job p trips Querying phase over = absurd over
+  over-row v s job p trips (Setting u strikes took) phase over = absurd over
+  over-row v s job p trips (Ended u a b) phase over = let same : u ≡ p = cc in subst (λ (z : Pair V). (i : ℕ) × EndedRow v i s job z) same (phase .2)
+  over-row v s job p trips Spent phase over = let z : _≡_ {A = ℕ} 0 1 = cc in absurd (omega arith)
+
+  collected-row : (v : View V) → Once v → (s job : ℕ) (p : Pair V) (trips : ℕ) (w : View V) → Collects v s job (Ok (result.Got p trips)) w → (i : ℕ) × EndedRow w i s job p
+  collected-row v once s job p trips w (inl x) = collect-refused _ (x .1 .0) (x .1 .1)
+  collected-row v once s job p trips w (inr (inl x)) = collect-refused _ (x .3 .0) (x .3 .1)
+  collected-row v once s job p trips w (inr (inr (h, held, (got, over, is), after))) =
+      let same : got ≡ result.Got p trips = cc in
+      let phase : Phase v s job (h .stage) = subst (λ (j : ℕ). Phase v s j (h .stage)) (held .2) (once .phase s h (held .0 .0) (held .1)) in
+      let row = over-row v s job p trips (h .stage) phase (subst (Over (h .stage)) same over) in
+      subst (λ (z : View V). (i : ℕ) × EndedRow z i s job p) (sym after) row
 
 module _ {V : Type 0} (F : ℕ → Type 0) (n : ℕ) (laws : Laws F n) (first : First V) (m bus-places journal-places : ℕ) where
   abbrev start : View V
@@ -423,6 +447,14 @@ module _ {V : Type 0} (F : ℕ → Type 0) (n : ℕ) (laws : Laws F n) (first : 
         let w = read-row x is in
         ap (λ (z : Pair V). z .value) (once-v .ended i (w .0) (x .station) (x .job) p (w .1) row (w .2)) ∙ w .4
 
+    -- the ended row of a job that is collected
+    collect-row : (k : ℕ) (x : Moment V) (s job : ℕ) (p : Pair V) (trips : ℕ) → AtTime ms k x → x .event ≡ collected s job (Ok (result.Got p trips)) → (i : ℕ) × EndedRow v i s job p
+    collect-row k x s job p trips at is =
+        let o = past k x run at in
+        let step : Collects (x .before) s job (Ok (result.Got p trips)) (x .after) = subst (λ (e : Event V). Step F (x .before) e (x .after)) is (o .step) in
+        let row = collected-row (x .before) (o .earlier .once) s job p trips (x .after) step in
+        (row .0, (row .1 .0, row .1 .1, o .grows (row .0) _ (row .1 .2)))
+
     shown : Shown ms v
     shown = record {
       stays = λ k m2 i row at. past k m2 run at .grows i row;
@@ -431,6 +463,9 @@ module _ {V : Type 0} (F : ℕ → Type 0) (n : ℕ) (laws : Laws F n) (first : 
       ended = λ x k m2 p at ends.
           let row = end-fact run k m2 (x .station) (x .job) p at ends .0 in
           (ended-tag x (x .sort) refl _ p row, ended-value x (x .sort) refl _ p row, row);
+      collect = λ x k m2 p trips at is.
+          let row = collect-row k m2 (x .station) (x .job) p trips at is in
+          (ended-tag x (x .sort) refl (row .0) p (row .1), ended-value x (x .sort) refl (row .0) p (row .1));
     }
 
   pub order-of-jobs : OrderOfJobs F first n m bus-places journal-places

@@ -15,6 +15,7 @@ use Rattle.telegrams.specs.declared.Pair.{Pair}
 use Rattle.telegrams.specs.declared.Telegram.{Telegram}
 use Rattle.quorums.specs.Sets.{Member, Share}
 use Rattle.line.specs.declared.types.Collected.{Collected}
+use Rattle.line.specs.declared.types.Collected.the-variants as result
 use Rattle.line.specs.declared.types.Delivered.{Delivered}
 use Rattle.line.specs.declared.types.Delivered.the-variants as answer
 use Rattle.line.specs.declared.types.First.{First}
@@ -173,6 +174,8 @@ module _ {V : Type 0} where
       pub ended : (x : Placed) (k : ℕ) (m : Moment V) (p : Pair V) → AtTime ms k m → EndsAt m (x .station) (x .job) p
           → (p .tag ≡ x .tag) × (p .value ≡ x .value)
           × ((trips : ℕ) × (strikes : ℕ) × (nth (v .journal) (length (m .before .journal)) ≡ Some (ended-row (x .station) (x .job) p trips strikes)))
+      pub collect : (x : Placed) (k : ℕ) (m : Moment V) (p : Pair V) (trips : ℕ) → AtTime ms k m → m .event ≡ collected (x .station) (x .job) (Ok (result.Got p trips))
+          → (p .tag ≡ x .tag) × (p .value ≡ x .value)
 
   -- the order of jobs of every run that follows an opening
   abbrev pub OrderOfJobs : (ℕ → Type 0) → First V → ℕ → ℕ → ℕ → ℕ → Type 0
