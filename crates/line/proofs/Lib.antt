@@ -5,6 +5,7 @@ pub mod Moves
 pub mod Onces
 pub mod Order
 pub mod Rows
+pub mod Single
 pub mod Sources
 pub mod Stepping
 pub mod Tellings

@@ -1,4 +1,5 @@
 pub mod Lines
+pub mod Results
 pub mod Runs
 pub mod Sizes
 pub mod Steps

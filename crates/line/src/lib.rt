@@ -4,6 +4,7 @@ ghost use Prim.Native.Nat.{ℕ};
 ghost use Rattle.std.specs.Results.{Cases};
 ghost use Rattle.words.specs.Refusals.{number};
 ghost use Rattle.line.specs.declared.types.First.{First};
+ghost use Rattle.line.specs.Results.{OneResult};
 ghost use Rattle.line.specs.Runs.{OrderOfJobs};
 ghost use Rattle.line.specs.Sizes.{Sized};
 
@@ -39,6 +40,7 @@ fn fits<V>(n: u8, m: &Memory<'_, V>) -> Result<(), Refusal>
 pub fn check_sizes<V, S: QuorumSystem>(system: &S, m: &Memory<'_, V>) -> Result<(), Refusal>
     ensures sizes { λ r. ⌜ Cases r (λ _. Sized (size (now (system .entry))) (now (m .entry))) (λ e. (number e ≡ 1) × (Sized (size (now (system .entry))) (now (m .entry)) → ⊥)) ⌝ }
     ensures order { λ _. ⌜ ((first : First V) (stations busPlaces journalPlaces : ℕ) → OrderOfJobs (quorum (now (system .entry))) first (size (now (system .entry))) stations busPlaces journalPlaces) ⌝ }
+    ensures single { λ _. ⌜ OneResult V (quorum (now (system .entry))) ⌝ }
 {
     fits(system.cabinets(), m)
 }

@@ -4,6 +4,7 @@ use Rattle.std.specs.Results.{Cases}
 use Rattle.words.specs.Refusals.{number}
 use Rattle.line.specs.Sizes.{Sized}
 use Rattle.line.proofs.Order.{order-of-jobs}
+use Rattle.line.proofs.Single.{one-result}
 use Rattle.line.proofs.check_sizes.Needs as need
 
 pub returns : need.returns
@@ -13,4 +14,5 @@ returns g c = record {
       let met = g .S·QuorumSystem·met in
       let s = c .args .system .now in
       order-of-jobs (g .S·QuorumSystem .quorum s) (g .S·QuorumSystem .size s) (record { few = met .sized s .1; member = met .member s; line = met .line s; share = met .share s }) first stations bus-places journal-places;
+  single = one-result (g .V .Denot) (g .S·QuorumSystem .quorum (c .args .system .now));
 }
