@@ -37,7 +37,7 @@ use Rattle.line.specs.declared.types.Work.{Work}
 use Rattle.line.specs.declared.types.Work.the-variants.{Write, Read}
 use Rattle.line.specs.Lines.{View, at-stage, change, hand-of, hold, last-of, note, put, replica, reply, send, ended-row, spent-row, tagged-row, told-tags, with-bus}
 use Rattle.line.specs.Results.{One, OneResult}
-use Rattle.line.specs.Steps.{Answer, AtHand, AtStation, Begins, Chosen, Claims, Collects, Delivers, Doubles, Fits, GivesUp, Greatest, Handed, InHand, Loses, Lowest, Over, Reads, Refused, Second, Shelves, Stored, Tags, Takes, Tells, with-shelf}
+use Rattle.line.specs.Steps.{Answer, AtHand, AtStation, Begins, Chosen, Claims, Collects, Delivers, Doubles, Fits, GivesUp, Greatest, Handed, InHand, Loses, Lowest, Over, Reads, Refused, Second, Shelves, Stored, Tags, TagsAfter, Takes, Tells, with-shelf}
 use Rattle.line.proofs.Keeps.{none-some, some-same}
 use Rattle.line.proofs.Moves.{nth-below}
 
@@ -243,8 +243,7 @@ module _ {V : Type 0} where
     tags-one : (w : View V) (h : Hand V) (y : V) (q : ℕ) → One (Tags F before v t w h y q)
     tags-one w h y q r s2 x z (g, most, a) (k, most2, b) =
         let e : g ≡ k = omega (arith, greatest-upto w q g k most most2, greatest-upto w q k g most2 most) in
-        at-one (λ (i : ℕ) r after. ((2 ^ 28 - 1 ≤ i) × Answer F before v t answer.Spent (note (hold w s (at-stage h Spent)) (spent-row w s (h .job))) r after)
-        ⊎ ((i < 2 ^ 28 - 1) × Second F before v t (tagged w h y i) h (made y i) 0 r after))
+        at-one (λ (i : ℕ). TagsAfter F before v t w h y i)
         g k e
         (either-one _ _ (λ r s w x a b. exact-one _ _ r s w x (a .1) (b .1)) (λ r s u x a b. second-one (tagged w h y g) h (made y g) 0 r s u x (a .1) (b .1)) (λ r s w x a b. omega (arith, a .0, b .0)))
         r s2 x z a b

@@ -101,14 +101,17 @@ module _ {V : Type 0} where
         (k : ℕ) × Member k q × (w .answers s k ≡ Some p) × (p .tag ≡ tag)
         × ((i : ℕ) (u : Pair V) → i < k → Member i q → w .answers s i ≡ Some u → u .tag ≡ tag → ⊥)
 
-    -- a write with the quorum q: the next count, or none is left
-    abbrev pub Tags : View V → Hand V → V → ℕ → Result Delivered Refusal → View V → Type 0
-    Tags w h x q r after =
-        (g : ℕ) × Greatest w q g
-        × (((2 ^ 28 - 1 ≤ g) × Answer answer.Spent (note (hold w s (at-stage h Spent)) (spent-row w s (h .job))) r after)
+    -- a write that was told counts up to g: the next count, or none is left
+    abbrev pub TagsAfter : View V → Hand V → V → ℕ → Result Delivered Refusal → View V → Type 0
+    TagsAfter w h x g r after =
+        ((2 ^ 28 - 1 ≤ g) × Answer answer.Spent (note (hold w s (at-stage h Spent)) (spent-row w s (h .job))) r after)
         ⊎ ((g < 2 ^ 28 - 1)
         × (let p : Pair V = record { tag = record { count = g + 1; owner = s }; value = x } in
-        Second (note (change w s (g + 1) (Some h) (w .answers s)) (tagged-row s (h .job) p)) h p 0 r after)))
+        Second (note (change w s (g + 1) (Some h) (w .answers s)) (tagged-row s (h .job) p)) h p 0 r after))
+
+    -- a write with the quorum q
+    abbrev pub Tags : View V → Hand V → V → ℕ → Result Delivered Refusal → View V → Type 0
+    Tags w h x q r after = (g : ℕ) × Greatest w q g × TagsAfter w h x g r after
 
     -- a read with the quorum q: as it is judged
     abbrev pub Reads : View V → Hand V → ℕ → Verdict → ℕ → Result Delivered Refusal → View V → Type 0
