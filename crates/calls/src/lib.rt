@@ -1,4 +1,6 @@
 // The calls of a line: opening it, and what stations and the bus then do.
+#![tactic(auto)]
+
 mod applying;
 pub mod begin;
 mod bus;

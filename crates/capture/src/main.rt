@@ -1,4 +1,6 @@
 // Prints the telegrams of a bus capture in plain words.
+#![tactic(auto)]
+
 mod scan;
 
 use scan::{Item, scan};

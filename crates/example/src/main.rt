@@ -1,4 +1,6 @@
 // One station writes a mask and another reads it, while a telegram is lost, one comes twice and one cabinet is silent.
+#![tactic(auto)]
+
 mod tickets;
 
 use anyhow::anyhow;

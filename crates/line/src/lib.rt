@@ -1,4 +1,6 @@
 // The line register: a setting that many stations write and read, kept in the cabinets of a line.
+#![tactic(auto)]
+
 ghost use Rattle.std.specs.Prelude.{◌≡◌, ℕ, ◌+◌, ◌≤◌, length, MatchBool};
 ghost use Rattle.line.specs.declared.types.First.{First};
 ghost use Rattle.line.specs.Known.{KnownFacts};

@@ -1,4 +1,6 @@
 // Shows a planner what a quorum system does: which quorum it picks, and what a read would do.
+#![tactic(auto)]
+
 mod text;
 
 use anyhow::anyhow;

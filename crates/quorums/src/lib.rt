@@ -1,4 +1,6 @@
 // Quorum systems: which sets of cabinets are quorums, and which quorum lies inside a given set.
+#![tactic(auto)]
+
 ghost use Rattle.std.specs.Prelude.{◌≡◌, ℕ, ◌<◌, ◌≤◌};
 ghost use Rattle.quorums.specs.Sets.{Member, Share, Picked};
 

@@ -1,4 +1,6 @@
 // Telegrams, and the words by which they go over the bus.
+#![tactic(auto)]
+
 ghost use Rattle.std.specs.Prelude.{◌≡◌, ◌+◌, ◌<◌, ◌≤◌, [], ◌∷◌, ◌++◌, length, take, drop, Some, MatchOption, slice_index};
 ghost use Rattle.std.specs.Result as results;
 ghost use Rattle.words.specs.Judged.{judged, verdict, Faulted, Written};

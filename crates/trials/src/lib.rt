@@ -1,4 +1,6 @@
 // Picks and judgements, compared with walks over whole families that share no code with them.
+#![tactic(auto)]
+
 #[cfg(test)]
 mod tests {
     use quorums::QuorumSystem;

@@ -1,4 +1,6 @@
 // The judgement of a read: one trip or two, from the tags that a quorum told.
+#![tactic(auto)]
+
 ghost use Rattle.std.specs.Prelude.{◌≡◌, ℕ, ◌<◌, ◌⊎◌, length, MatchOption};
 ghost use Rattle.words.specs.Tags.{Before, Upto};
 ghost use Rattle.quorums.specs.Sets.{Member, Those};

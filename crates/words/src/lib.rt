@@ -1,4 +1,6 @@
 // Words, tags, values and refusals of the line register.
+#![tactic(auto)]
+
 pub mod bytes;
 pub mod mask;
 pub mod refusal;

@@ -7,10 +7,10 @@ pub loop-at-preserved : goal.loop-at-preserved
 loop-at-preserved c =
     let bs = c.args.bytes.now in
     let i = c.loop-at.at in
-    let items : vec_items c.push.new.self ≡ vec_items c.loop-at.words ++ (c.from-be-bytes.result ∷ []) = search rules in (
+    let items : vec_items c.push.new.self ≡ vec_items c.loop-at.words ++ (c.from_be_bytes.result ∷ []) = search rules in (
       omega arith,
       ap (λ (t : List ℕ). t ++ word_list (drop (i + 4) bs)) items
-          ∙ words_more bs (vec_items c.loop-at.words) (word_list bs) i c.from-be-bytes.result (omega arith) c.from-be-bytes.ensures c.loop-at.invariant.1,
+          ∙ words_more bs (vec_items c.loop-at.words) (word_list bs) i c.from_be_bytes.result (omega arith) c.from_be_bytes.ensures c.loop-at.invariant.1,
     )
 
 pub returns : goal.returns

@@ -8,5 +8,5 @@ pub returns : goal.returns
 returns c =
     let m = c.args.self.now in
     let long : length m.parts ≡ 4 = search rules in
-    MatchResult-weaker c.check-parts.result c.check-parts.ensures (λ _ small. (long, small))
+    MatchResult-weaker c.check_parts.result c.check_parts.ensures (λ _ small. (long, small))
     (λ e f. subst (λ (fs : List ℕ). Faulted fs e) (sym (four m long)) f)

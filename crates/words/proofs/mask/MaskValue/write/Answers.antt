@@ -15,10 +15,10 @@ returns-then-out-lt-MASK-PARTS c =
 pub returns : goal.returns
 returns c =
     let m = c.args.self.now in
-    let is = c.in-ok-check.ensures in
+    let is = c.in_ok-check.ensures in
     let long : length (mask_run m) ≡ length m.parts = length-map m.parts (marked 7) in (
       mask_clean m is,
       omega arith,
       omega arith,
-      c.write-parts.ensures ∙ ap (λ (n : ℕ). mask_run m ++ drop n c.args.out.now) (sym long),
+      c.write_parts.ensures ∙ ap (λ (n : ℕ). mask_run m ++ drop n c.args.out.now) (sym long),
     )
