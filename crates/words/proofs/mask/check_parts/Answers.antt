@@ -2,8 +2,8 @@ use Rattle.std.proofs.Common.{refl, ◌∙◌, arith}
 use Rattle.words.specs.PartRows.{fault_at, fits, small_all, too_wide}
 use Rattle.words.proofs.mask.check_parts.Goals as goal
 
-pub returns-then-part-gt-MAX-PART : goal.returns-then-part-gt-MAX-PART
-returns-then-part-gt-MAX-PART c =
+pub returns-then-part-gt-MAX_PART : goal.returns-then-part-gt-MAX_PART
+returns-then-part-gt-MAX_PART c =
     let ps = c.args.parts.now in
     let i = c.loop-place.place in
     record {

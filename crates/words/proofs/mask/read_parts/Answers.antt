@@ -6,11 +6,11 @@ use Rattle.words.specs.Judging.{of_kind, verdict_at}
 use Rattle.words.specs.PartRows.{read_more, row_judged, small_all}
 use Rattle.words.proofs.mask.read_parts.Goals as goal
 
-pub returns-in-default : goal.returns-in-default
-returns-in-default c = record {
+pub returns-in_default : goal.returns-in_default
+returns-in_default c = record {
   place = c.loop-place.place;
   before = c.loop-place.invariant.1;
-  at = row_judged _ c.args.words.now c.loop-place.place (omega arith) ∙ c.in-default.ensures;
+  at = row_judged _ c.args.words.now c.loop-place.place (omega arith) ∙ c.in_default.ensures;
   carries = refl;
 }
 

@@ -5,10 +5,10 @@ use Rattle.words.specs.Words.{marked}
 use Rattle.words.specs.PartRows.{mask_clean}
 use Rattle.words.proofs.mask.MaskValue.write.Goals as goal
 
-pub returns-then-out-lt-MASK-PARTS : goal.returns-then-out-lt-MASK-PARTS
-returns-then-out-lt-MASK-PARTS c =
+pub returns-then-out-lt-MASK_PARTS : goal.returns-then-out-lt-MASK_PARTS
+returns-then-out-lt-MASK_PARTS c =
     let m = c.args.self.now in
-    let is = c.in-ok-check.ensures in
+    let is = c.in_ok-check.ensures in
     let long = length-map m.parts (marked 7) in
     (refl, inr (mask_clean m is, omega arith, refl))
 
