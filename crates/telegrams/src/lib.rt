@@ -1,8 +1,7 @@
 // Telegrams, and the words by which they go over the bus.
 #![tactic(auto)]
 
-ghost use Rattle.std.specs.Prelude.{◌≡◌, ◌+◌, ◌<◌, ◌≤◌, [], ◌∷◌, ◌++◌, length, take, drop, Some, MatchOption, slice_index};
-ghost use Rattle.std.specs.Result as results;
+ghost use Rattle.std.specs.Prelude.{◌≡◌, ◌+◌, ◌<◌, ◌≤◌, [], ◌∷◌, ◌++◌, length, take, drop, Some, MatchOption, MatchResult, slice_index};
 ghost use Rattle.words.specs.Judged.{judged, verdict, Faulted, Written};
 ghost use Rattle.words.specs.Words.{head_word};
 ghost use Rattle.telegrams.specs.Telegrams.{head_judge, tag_judges, IsHead, head_of, kind_number, pair_of, pair_run, telegram_run, telegram_faults, IsTelegram, IsPair, pair_faults, ReadAs, Exact, OneRun};
@@ -48,7 +47,7 @@ pub struct Telegram<V> {
 impl<V: Value> Pair<V> {
     // Whether count, owner and value lie in their ranges; places count from the telegram's first word.
     fn check(&self) -> Result<(), Refusal>
-        ensures { results.MatchResult result (λ _. IsPair valid (Some self.now)) (Faulted (0 ∷ pair_faults faults (Some self.now))) }
+        ensures { MatchResult result (λ _. IsPair V.valid (Some self.now)) (Faulted (0 ∷ pair_faults V.faults (Some self.now))) }
     {
         if self.tag.count > MAX_COUNT {
             return Err(Refusal::BadWord { place: 1 });
@@ -78,7 +77,7 @@ impl<V: Value> Telegram<V> {
 
     // Whether every field lies in its range; otherwise the first word at fault.
     pub fn check(&self) -> Result<(), Refusal>
-        ensures { results.MatchResult result (λ _. IsTelegram valid self.now) (Faulted (telegram_faults faults self.now)) }
+        ensures { MatchResult result (λ _. IsTelegram V.valid self.now) (Faulted (telegram_faults V.faults self.now)) }
     {
         if self.cabinet > MAX_CABINET
             || self.station < 1
@@ -95,7 +94,7 @@ impl<V: Value> Telegram<V> {
 
     // The telegram whose run opens the words, and the run's length; otherwise the first word at fault.
     fn read_words(words: &[u32]) -> Result<(Telegram<V>, usize), Refusal>
-        ensures { ReadAs valid run judges words.now result }
+        ensures { ReadAs V.valid V.run V.judges words.now result }
     {
         let Some(head) = read_head(words) else {
             return Err(Refusal::BadWord { place: 0 });
@@ -143,9 +142,9 @@ impl<V: Value> Telegram<V> {
     // Words are read as a telegram exactly when they open with its run, the only one that it has: no
     // two telegrams share a run, and no run opens another's.
     pub fn read(words: &[u32]) -> Result<(Telegram<V>, usize), Refusal>
-        ensures reads { ReadAs valid run judges words.now result }
-        ensures exact { Exact valid run words.now result }
-        ensures alone { OneRun valid run }
+        ensures reads { ReadAs V.valid V.run V.judges words.now result }
+        ensures exact { Exact V.valid V.run words.now result }
+        ensures alone { OneRun V.valid V.run }
     {
         Telegram::read_words(words)
     }
@@ -153,7 +152,7 @@ impl<V: Value> Telegram<V> {
     // Puts the telegram's run down at the start of `out`, and answers its length. Fields out of range
     // are refused before a short output, and a refusal leaves `out` as found.
     pub fn write(&self, out: &mut [u32]) -> Result<usize, Refusal>
-        ensures { Written (telegram_faults faults self.now) (telegram_run run self.now) out.old out.new result }
+        ensures { Written (telegram_faults V.faults self.now) (telegram_run V.run self.now) out.old out.new result }
     {
         self.check()?;
         let head = join(self.head());
@@ -195,8 +194,8 @@ fn write_alone(head: u32, out: &mut [u32]) -> Result<usize, Refusal>
 
 // Puts down a head with its tag and value.
 fn write_pair<V: Value>(head: u32, pair: &Pair<V>, out: &mut [u32]) -> Result<usize, Refusal>
-    requires { IsPair valid (Some pair.now) }
-    ensures { Written [] (head ∷ pair_run run (Some pair.now)) out.old out.new result }
+    requires { IsPair V.valid (Some pair.now) }
+    ensures { Written [] (head ∷ pair_run V.run (Some pair.now)) out.old out.new result }
 {
     let end = 3 + V::width();
     if out.len() < end {
@@ -267,7 +266,7 @@ fn carrying<V>(kind: u8, pair: Pair<V>) -> TelegramKind<V>
 
 // The tag and value behind the head; places count from the telegram's first word.
 fn read_pair<V: Value>(words: &[u32]) -> Result<Pair<V>, Refusal>
-    ensures { results.MatchResult result (λ p. IsPair valid (Some p) × (take (2 + length judges) (drop 1 words.now) ≡ pair_run run (Some p))) (Faulted (0 ∷ judged (tag_judges ++ judges) (drop 1 words.now))) }
+    ensures { MatchResult result (λ p. IsPair V.valid (Some p) × (take (2 + length V.judges) (drop 1 words.now) ≡ pair_run V.run (Some p))) (Faulted (0 ∷ judged (tag_judges ++ V.judges) (drop 1 words.now))) }
 {
     let Some(count) = bits_at(5, words, 1) else {
         return Err(Refusal::BadWord { place: 1 });

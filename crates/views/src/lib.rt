@@ -60,7 +60,7 @@ fn earlier(set: u16, tags: &[Tag], tag: &Tag) -> u16
 fn strike<S: QuorumSystem>(system: &S, q: u16, tags: &[Tag], top: Tag) -> (Verdict, u8)
     requires told { (k : ℕ) → Member k q → k < length tags.now }
     requires top { Held tags.now q top × Latest tags.now q top }
-    ensures { Judged tags.now q (quorum system.now) result.0 result.1 }
+    ensures { Judged tags.now q (S.quorum system.now) result.0 result.1 }
 {
     let mut remaining = q;
     let mut at = top;
@@ -83,7 +83,7 @@ fn strike<S: QuorumSystem>(system: &S, q: u16, tags: &[Tag], top: Tag) -> (Verdi
 // The verdict on a read whose quorum q told these tags, by cabinet, and the number of strikes. None
 // exactly if q has no member, or one that told no tag.
 pub fn judge<S: QuorumSystem>(system: &S, q: u16, tags: &[Tag]) -> Option<(Verdict, u8)>
-    ensures judges { Judges tags.now q (quorum system.now) result }
+    ensures judges { Judges tags.now q (S.quorum system.now) result }
     ensures known { KnownSettings }
 {
     let told = tags.len().min(16) as u8;

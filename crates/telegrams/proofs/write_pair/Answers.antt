@@ -13,10 +13,10 @@ returns-then-out-end g c =
 pub returns : goal.returns
 returns g c =
     let os = c.args.out.now in
-    let run = g.row.V-Value.run c.args.pair.now.value in
+    let run = g.V.Value.run c.args.pair.now.value in
     let n = 3 + c.width-end.result - 3 in
     let long : length run ≡ n = omega (arith, g.met.V.Value.long c.args.pair.now.value c.requires.2) in
-    let put : c.write.new.out ≡ run = c.in-ok-write.ensures.3 ∙ filled run os n long in
+    let put : c.write.new.out ≡ run = c.in_ok-write.ensures.3 ∙ filled run os n long in
     let tag = c.args.pair.now.tag in
     let count : c.mark.result ≡ marked 5 tag.count = omega (arith, c.mark.ensures, c.requires.0) in
     let owner : c.mark-2.result ≡ marked 6 tag.owner = omega (arith, c.mark-2.ensures, c.from.ensures, c.requires.1) in (

@@ -6,7 +6,7 @@ use Rattle.quorums.specs.Sets.{Member, Those}
 use Rattle.quorums.specs.Members.{those_passed, those_with}
 use Rattle.views.specs.Views.{told}
 use Rattle.views.proofs.earlier.Goals as goal
-use Rattle.views.proofs.earlier.Goals.{then-has+then-is-later, else-has, else-has-via-then-has+else-is-later, else-has-via-else-has}
+use Rattle.views.proofs.earlier.Goals.{then-has+then-is_later, else-has, else-has-via-then-has+else-is_later, else-has-via-else-has}
 
 pub loop-k-preserved : goal.loop-k-preserved
 loop-k-preserved c =
@@ -15,17 +15,17 @@ loop-k-preserved c =
     let at = c.args.tag.now in
     let P : ℕ → Type 0 = λ j. Member j c.args.set × Before (told tags j) at in
     elim c.if-has.branch [
-      | then-has+then-is-later w ↦
+      | then-has+then-is_later w ↦
           subst (Those P (k + 1)) (sym w.rest-is)
           (those_with P k c.loop-k.rest w.with-rest.result (omega arith) c.loop-k.invariant
-          (w.if-has.ensures, subst (λ (j : ℕ). Before (told tags j) at) w.from.ensures w.if-is-later.ensures.later) w.with-rest.ensures)
+          (w.if-has.ensures, subst (λ (j : ℕ). Before (told tags j) at) w.from.ensures w.if-is_later.ensures.later) w.with-rest.ensures)
       | else-has w ↦
           subst (Those P (k + 1)) (sym w.rest-is)
           (those_passed P k c.loop-k.rest c.loop-k.invariant
           (λ p.
           elim w.else-has.branch [
-            | else-has-via-then-has+else-is-later v ↦
-                tag_order.not_both (told tags k) at p.1 (subst (λ (j : ℕ). Upto at (told tags j)) v.from.ensures v.if-is-later.ensures.later)
+            | else-has-via-then-has+else-is_later v ↦
+                tag_order.not_both (told tags k) at p.1 (subst (λ (j : ℕ). Upto at (told tags j)) v.from.ensures v.if-is_later.ensures.later)
             | else-has-via-else-has v ↦ v.if-has.ensures p.0
           ]))
     ]

@@ -20,30 +20,30 @@ module _ (q long line : ℕ) (small : q < 2 ^ 16) (is : line ≡ 2 ^ min (min lo
 line_is : (long n line : ℕ) → n ≡ min long 16 → line ≡ 2 ^ min n 16 - 1 → line ≡ 2 ^ min (min long 16) 16 - 1
 line_is long n line e is = is ∙ ap (λ (k : ℕ). 2 ^ min k 16 - 1) e
 
-pub returns-then-not-is-inside : goal.returns-then-not-is-inside
-returns-then-not-is-inside g c = record {
+pub returns-then-not-is_inside : goal.returns-then-not-is_inside
+returns-then-not-is_inside g c = record {
   judges = λ some told.
-      c.if-not-is-inside.ensures (all_told c.args.q _ c.all.result (omega arith) (line_is _ _ c.all.result c.min-told.ensures c.all.ensures) told);
+      c.if-not-is_inside.ensures (all_told c.args.q _ c.all.result (omega arith) (line_is _ _ c.all.result c.min-told.ensures c.all.ensures) told);
   known = known_settings;
 }
 
-pub returns-in-default : goal.returns-in-default
-returns-in-default g c = record { judges = λ some told. c.in-default.ensures some.0 some.1; known = known_settings }
+pub returns-in_default : goal.returns-in_default
+returns-in_default g c = record { judges = λ some told. c.in_default.ensures some.0 some.1; known = known_settings }
 
 pub latest-requires : goal.latest-requires
 latest-requires g c =
-    told_all c.args.q _ c.all.result (omega arith) (line_is _ _ c.all.result c.min-told.ensures c.all.ensures) c.if-not-is-inside.ensures
+    told_all c.args.q _ c.all.result (omega arith) (line_is _ _ c.all.result c.min-told.ensures c.all.ensures) c.if-not-is_inside.ensures
 
 pub strike-requires : goal.strike-requires
 strike-requires g c = record {
-  told = told_all c.args.q _ c.all.result (omega arith) (line_is _ _ c.all.result c.min-told.ensures c.all.ensures) c.if-not-is-inside.ensures;
+  told = told_all c.args.q _ c.all.result (omega arith) (line_is _ _ c.all.result c.min-told.ensures c.all.ensures) c.if-not-is_inside.ensures;
   top = c.in-Some.ensures;
 }
 
 pub returns : goal.returns
 returns g c = record {
   judges = (
-    told_all c.args.q _ c.all.result (omega arith) (line_is _ _ c.all.result c.min-told.ensures c.all.ensures) c.if-not-is-inside.ensures,
+    told_all c.args.q _ c.all.result (omega arith) (line_is _ _ c.all.result c.min-told.ensures c.all.ensures) c.if-not-is_inside.ensures,
     c.strike.ensures,
     lawful c.args.tags.now c.args.q (g.S.QuorumSystem.quorum c.args.system.now) (omega arith) (g.met.S.QuorumSystem.share c.args.system.now) c.strike.result.0 c.strike.result.1 c.strike.ensures,
   );

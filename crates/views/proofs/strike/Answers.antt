@@ -27,12 +27,12 @@ loop-next-preserved g c =
     onward c.args.tags.now c.args.q (m.quorum s) c.loop-next.remaining c.loop-next.at c.loop-next.strikes
     c.loop-next.invariant (omega arith) c.earlier-rest.result c.earlier-rest.ensures c.in-Some.next got.0 got.1
     (m.size s) (met.line s) c.outside.result
-    (subst (λ (k : ℕ). Those (λ j. Member j c.earlier-rest.result → ⊥) k c.outside.result) n c.outside.ensures) c.in-default-pick.ensures
+    (subst (λ (k : ℕ). Those (λ j. Member j c.earlier-rest.result → ⊥) k c.outside.result) n c.outside.ensures) c.in_default-pick.ensures
 
-pub returns-in-default : goal.returns-in-default
-returns-in-default g c =
+pub returns-in_default : goal.returns-in_default
+returns-in_default g c =
     one_trip c.args.tags.now c.args.q (g.S.QuorumSystem.quorum c.args.system.now) c.loop-next.remaining c.loop-next.at c.loop-next.strikes
-    c.loop-next.invariant (omega arith) c.earlier-rest.result c.earlier-rest.ensures c.in-default.ensures
+    c.loop-next.invariant (omega arith) c.earlier-rest.result c.earlier-rest.ensures c.in_default.ensures
 
 pub returns-in-Some-pick : goal.returns-in-Some-pick
 returns-in-Some-pick g c =
@@ -40,4 +40,4 @@ returns-in-Some-pick g c =
     let picked = c.in-Some-pick.ensures in
     second_trip c.args.tags.now c.args.q (g.S.QuorumSystem.quorum c.args.system.now) c.loop-next.remaining c.loop-next.at c.loop-next.strikes
     c.loop-next.invariant (omega arith) c.earlier-rest.result c.earlier-rest.ensures c.in-Some.next got.0 got.1
-    c.args.top (min c.cabinets.result 16) c.in-Some-pick.-other c.requires.top.0 c.requires.top.1 c.outside.result c.outside.ensures picked.0 picked.1
+    c.args.top (min c.cabinets.result 16) c.in-Some-pick._other c.requires.top.0 c.requires.top.1 c.outside.result c.outside.ensures picked.0 picked.1

@@ -8,22 +8,22 @@ use Rattle.capture.proofs.scan.scan.Given as given
 use Rattle.capture.proofs.scan.scan.Goals as goal
 
 -- what the words from the place on were read as
-found : (g : given.Over) (c : goal.In-ok-push g) → ReadAs g.row.V-Value.valid g.row.V-Value.run g.row.V-Value.judges (drop c.loop-place.place c.args.words.now) (Ok (c.in-Ok.telegram, c.in-Ok.width))
+found : (g : given.Over) (c : goal.In-ok-push g) → ReadAs g.V.Value.valid g.V.Value.run g.V.Value.judges (drop c.loop-place.place c.args.words.now) (Ok (c.in-Ok.telegram, c.in-Ok.width))
 found g c =
-    from (λ ws. ReadAs g.row.V-Value.valid g.row.V-Value.run g.row.V-Value.judges ws (Ok (c.in-Ok.telegram, c.in-Ok.width)))
+    from (λ ws. ReadAs g.V.Value.valid g.V.Value.run g.V.Value.judges ws (Ok (c.in-Ok.telegram, c.in-Ok.width)))
     c.args.words.now c.loop-place.place c.in-Ok.ensures.reads
 
 reach : (g : given.Over) (c : goal.In-ok-push g) → c.loop-place.place + c.in-Ok.width ≤ length c.args.words.now
 reach g c =
     let got = found g c in
-    within c.args.words.now (telegram_run g.row.V-Value.run c.in-Ok.telegram) c.loop-place.place c.in-Ok.width c.loop-place.invariant.0 got.1 got.2
+    within c.args.words.now (telegram_run g.V.Value.run c.in-Ok.telegram) c.loop-place.place c.in-Ok.width c.loop-place.invariant.0 got.1 got.2
 
 pub overflow-add-place : goal.overflow-add-place
 overflow-add-place g c = let h = reach g c in search rules
 
 pub loop-place-preserved-in-Ok : goal.loop-place-preserved-in-Ok
 loop-place-preserved-in-Ok g c =
-    let m = g.row.V-Value in
+    let m = g.V.Value in
     let ws = c.args.words.now in
     let items : vec_items c.push.new.self ≡ vec_items c.loop-place.items ++ (Found c.loop-place.place c.in-Ok.telegram ∷ []) = search rules in (
       reach g c,
@@ -34,7 +34,7 @@ loop-place-preserved-in-Ok g c =
 
 pub loop-place-preserved : goal.loop-place-preserved
 loop-place-preserved g c =
-    let m = g.row.V-Value in
+    let m = g.V.Value in
     let ws = c.args.words.now in
     let e = c.shifted.result in
     let items : vec_items c.push-in-Err.new.self ≡ vec_items c.loop-place.items ++ (Refused e ∷ []) = search rules in
@@ -47,5 +47,5 @@ loop-place-preserved g c =
 
 pub returns : goal.returns
 returns g c =
-    let m = g.row.V-Value in
+    let m = g.V.Value in
     no_more (Scans m.valid m.run m.judges c.args.words.now 0) (vec_items c.loop-place.items) (c.loop-place.invariant.1 [] c.loop-place-test.false)

@@ -6,7 +6,7 @@ use Rattle.capture.proofs.scan.scan.Given as goal
 -- whatever the scan goes on with from here, behind the items so far it is a scan from the start
 abbrev pub invariant-loop-place : goal.invariant-loop-place
 invariant-loop-place g l =
-    let m = g.row.V-Value in
+    let m = g.V.Value in
     (l.place ≤ length l.words)
     × ((rest : List (Item g.row.V.Denot)) → Scans m.valid m.run m.judges l.words l.place rest
     → Scans m.valid m.run m.judges l.words 0 (vec_items l.items ++ rest))

@@ -5,7 +5,7 @@ use Rattle.quorums.specs.Sets.{Picked}
 use Rattle.quorums.proofs.Picks.{pick_more, pick_same}
 use Rattle.quorums.specs.Tables.{far_or_here, here, so_far}
 use Rattle.quorums.proofs.table.pick_listed.Goals as goal
-use Rattle.quorums.proofs.table.pick_listed.Goals.{then-is-inside, else-is-inside}
+use Rattle.quorums.proofs.table.pick_listed.Goals.{then-is_inside, else-is_inside}
 
 pub loop-s-preserved : goal.loop-s-preserved
 loop-s-preserved c =
@@ -17,13 +17,13 @@ loop-s-preserved c =
     let old = so_far sets i in
     let new = here sets i (omega arith) in
     let cases = far_or_here sets i (omega arith) in
-    elim c.if-is-inside.branch [
-      | then-is-inside w ↦
+    elim c.if-is_inside.branch [
+      | then-is_inside w ↦
           subst (Picked G c.args.given) (sym (w.best-is ∙ ap Some w.least.ensures))
-          (pick_more F G c.args.given s old new cases c.loop-s.best c.loop-s.invariant w.if-is-inside.ensures)
-      | else-is-inside w ↦
+          (pick_more F G c.args.given s old new cases c.loop-s.best c.loop-s.invariant w.if-is_inside.ensures)
+      | else-is_inside w ↦
           subst (Picked G c.args.given) (sym w.best-is)
-          (pick_same F G c.args.given s old new cases c.loop-s.best c.loop-s.invariant w.if-is-inside.ensures)
+          (pick_same F G c.args.given s old new cases c.loop-s.best c.loop-s.invariant w.if-is_inside.ensures)
     ]
 
 pub returns : goal.returns

@@ -4,7 +4,7 @@ use Rattle.quorums.specs.Sets.{Picked}
 use Rattle.quorums.specs.Grids.{CrossBelow, columns, cross_cases, cross_far, cross_grid, cross_here, grid_cross}
 use Rattle.quorums.proofs.Picks.{pick_like, pick_more, pick_same}
 use Rattle.quorums.proofs.grid.GridQuorumSystem.pick.Goals as goal
-use Rattle.quorums.proofs.grid.GridQuorumSystem.pick.Goals.{then-is-inside, else-is-inside}
+use Rattle.quorums.proofs.grid.GridQuorumSystem.pick.Goals.{then-is_inside, else-is_inside}
 
 pub loop-at-preserved : goal.loop-at-preserved
 loop-at-preserved c =
@@ -15,13 +15,13 @@ loop-at-preserved c =
     let x = c.cross-s.ensures in
     let F = CrossBelow n cs i in
     let G = CrossBelow n cs (i + 1) in
-    elim c.if-is-inside.branch [
-      | then-is-inside w ↦
+    elim c.if-is_inside.branch [
+      | then-is_inside w ↦
           subst (Picked G c.args.given) (sym (w.best-is ∙ ap Some w.least.ensures))
-          (pick_more F G c.args.given s (cross_far n cs i s x) (cross_here n cs i s x) (cross_cases n cs i s x) c.loop-at.best c.loop-at.invariant w.if-is-inside.ensures)
-      | else-is-inside w ↦
+          (pick_more F G c.args.given s (cross_far n cs i s x) (cross_here n cs i s x) (cross_cases n cs i s x) c.loop-at.best c.loop-at.invariant w.if-is_inside.ensures)
+      | else-is_inside w ↦
           subst (Picked G c.args.given) (sym w.best-is)
-          (pick_same F G c.args.given s (cross_far n cs i s x) (cross_here n cs i s x) (cross_cases n cs i s x) c.loop-at.best c.loop-at.invariant w.if-is-inside.ensures)
+          (pick_same F G c.args.given s (cross_far n cs i s x) (cross_here n cs i s x) (cross_cases n cs i s x) c.loop-at.best c.loop-at.invariant w.if-is_inside.ensures)
     ]
 
 pub returns : goal.returns

@@ -3,8 +3,8 @@ use Rattle.quorums.specs.Families.{Tight}
 use Rattle.quorums.specs.Members.{share_some}
 use Rattle.quorums.proofs.table.Table.new.Goals as goal
 
-pub invariant-of-result : goal.invariant-of-result
-invariant-of-result c =
+pub invariant_of-result : goal.invariant_of-result
+invariant_of-result c =
     let list = vec_items c.args.quorums in
-    let tight = subst (Tight c.args.cabinets) c.as-slice.ensures.value c.if-not-is-tight.ensures in
-    (omega arith, (omega arith, (tight.some, (tight.line, ((λ i j h l. share_some (get_or list i 0) (get_or list j 0) (tight.share i j h l)), tt)))))
+    let tight = subst (Tight c.args.cabinets) c.as_slice.ensures.value c.if-not-is_tight.ensures in
+    record { some = omega arith; most = omega arith; listed = tight.some; line = tight.line; share = (λ i j h l. share_some (get_or list i 0) (get_or list j 0) (tight.share i j h l)) }
