@@ -74,7 +74,7 @@ module _ {V : Type 0} (F : ℕ → Type 0) (v : View V) (inv : Inv v F) where
                   record {
                     stored = g.stored;
                     under_way = λ t u a told at l.
-                        ⊎_elim (λ o. g.under-way t u o told at l)
+                        ⊎_elim (λ o. g.under_way t u o told at l)
                         (λ n.
                         let is : replica v c ≡ u = ap (replica v) (sym at) ∙ sym (n.1 u told) in
                         subst (λ (x : Pair V). Upto p.tag x.tag) is g.stored)
@@ -163,7 +163,7 @@ module _ {V : Type 0} (F : ℕ → Type 0) (v : View V) (inv : Inv v F) where
             earned = earned_note s j x.work p low x.earned;
             quorum = x.quorum;
             is_quorum = x.is_quorum;
-            guards = λ c m. let g = x.guards c m in record { stored = g.stored; under_way = g.under-way; kept = g.kept };
+            guards = λ c m. let g = x.guards c m in record { stored = g.stored; under_way = g.under_way; kept = g.kept };
           })
           (λ here. subst (λ (k : ℕ). EndedFits w F k s j p) (sym here.0) (new-ended s j p row.0 row.1 here.1))
           (nth_cases v.journal r i _ row.2);
@@ -251,7 +251,7 @@ module _ {V : Type 0} (F : ℕ → Type 0) (v : View V) (inv : Inv v F) where
             earned = earned_store s j x.work u x.earned;
             quorum = x.quorum;
             is_quorum = x.is_quorum;
-            guards = λ k m. let g = x.guards k m in record { stored = up u.tag k g.stored; under_way = g.under-way; kept = g.kept };
+            guards = λ k m. let g = x.guards k m in record { stored = up u.tag k g.stored; under_way = g.under_way; kept = g.kept };
           };
     }
 
@@ -349,7 +349,7 @@ module _ {V : Type 0} (F : ℕ → Type 0) (v : View V) (inv : Inv v F) where
                   let g = y.guards c m in
                   record {
                     stored = g.stored;
-                    under_way = g.under-way;
+                    under_way = g.under_way;
                     kept = λ q h u l e a low.
                         ⊎_elim
                         (λ at.

@@ -111,7 +111,7 @@ module _ {V : Type 0} (F : ℕ → Type 0) (n : ℕ) (laws : Laws F n) (first : 
   reached (more {v = v} {w = w} {e = e} run step) =
       let r = reached run in
       let g = step_good F n laws v r.inv r.size_is e w step in
-      record { inv = g.inv; once = step_once F v r.inv r.once e w step; size_is = g.size-kept ∙ r.size_is; first_is = g.first-kept ∙ r.first_is }
+      record { inv = g.inv; once = step_once F v r.inv r.once e w step; size_is = g.size_kept ∙ r.size_is; first_is = g.first_kept ∙ r.first_is }
 
   -- what is known of a moment of a run that has come to v
   record Past (x : Moment V) (v : View V) : Type 0 where

@@ -77,7 +77,7 @@ fn check_rows<V>(n: u8, m: &Memory<'_, V>) -> Result<usize, Refusal>
 
 // Judges the memory as every call does first: the rows that are free beyond those owed, or refusal 1.
 pub fn check<V, S: QuorumSystem>(system: &S, m: &Memory<'_, V>) -> Result<usize, Refusal>
-    ensures sound { Judges (size system.now) m.now result }
+    ensures sound { Judges (S.size system.now) m.now result }
 {
     check_rows(system.cabinets(), m)
 }
@@ -85,7 +85,7 @@ pub fn check<V, S: QuorumSystem>(system: &S, m: &Memory<'_, V>) -> Result<usize,
 // Does nothing. Its contract holds the theorems about the steps, for every kind of value and every quorum system: the order
 // of jobs in every run, that a call has one result, and the known facts.
 pub fn steps_hold<V, S: QuorumSystem>(_system: &S)
-    ensures order { (first : First V) (stations busPlaces journalPlaces : ℕ) → OrderOfJobs (quorum _system.now) first (size _system.now) stations busPlaces journalPlaces }
-    ensures single { OneResult V (quorum _system.now) }
-    ensures known { KnownFacts V (quorum _system.now) }
+    ensures order { (first : First V) (stations busPlaces journalPlaces : ℕ) → OrderOfJobs (S.quorum _system.now) first (S.size _system.now) stations busPlaces journalPlaces }
+    ensures single { OneResult V (S.quorum _system.now) }
+    ensures known { KnownFacts V (S.quorum _system.now) }
 {}

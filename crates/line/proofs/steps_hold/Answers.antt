@@ -9,8 +9,8 @@ pub returns : goal.returns
 returns g c = record {
   order = λ first stations bus_places journal_places.
       let met = g.met.S.QuorumSystem in
-      let s = c.args.-system.now in
+      let s = c.args._system.now in
       order_of_jobs (g.S.QuorumSystem.quorum s) (g.S.QuorumSystem.size s) (record { few = (met.sized s).1; member = met.member s; line = met.line s; share = met.share s }) first stations bus_places journal_places;
-  single = one_result g.row.V.Denot (g.S.QuorumSystem.quorum c.args.-system.now);
-  known = record { settings = known_settings; excluded = excluded g.row.V.Denot (g.S.QuorumSystem.quorum c.args.-system.now); run = known_run };
+  single = one_result g.row.V.Denot (g.S.QuorumSystem.quorum c.args._system.now);
+  known = record { settings = known_settings; excluded = excluded g.row.V.Denot (g.S.QuorumSystem.quorum c.args._system.now); run = known_run };
 }
