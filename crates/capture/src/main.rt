@@ -3,6 +3,7 @@
 
 mod scan;
 
+use anyhow::anyhow;
 use scan::{Item, scan};
 use std::alloc::{AllocError, Global};
 use std::env;
@@ -45,15 +46,15 @@ fn masks(rt: &HostRuntime) -> anyhow::Result<bool> {
     let mut args = env::args(rt)?;
     let _program = args.next();
     let Some(kind) = args.next() else {
-        return Err(USAGE.into());
+        return Err(anyhow!(USAGE));
     };
     if args.next().is_some() {
-        return Err(USAGE.into());
+        return Err(anyhow!(USAGE));
     }
     match kind.as_str() {
         "mask" => Ok(true),
         "speed" => Ok(false),
-        _ => Err(USAGE.into()),
+        _ => Err(anyhow!(USAGE)),
     }
 }
 

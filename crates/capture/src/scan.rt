@@ -18,7 +18,7 @@ pub enum Item<V> {
 
 // The items of a capture, from its start to its end.
 pub fn scan<V: Value>(heap: Global, words: &[u32]) -> Result<Vec<Item<V>>, AllocError>
-    ensures { IfOk result (λ items. Scans valid run judges words.now 0 items.items) }
+    ensures { IfOk result (λ items. Scans V.valid V.run V.judges words.now 0 items.items) }
 {
     let mut items = Vec::new(heap);
     let mut place = 0;

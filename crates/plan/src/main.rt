@@ -106,16 +106,13 @@ fn serve<S: QuorumSystem>(rt: &HostRuntime, system: &S) -> anyhow::Result<()> {
     Ok(())
 }
 
-fn refused(heap: Global, e: Refusal) -> anyhow::Error {
-    match format!(in heap; "refused {e}") {
-        Ok(text) => text.into(),
-        Err(_) => "refused".into(),
-    }
+fn refused(e: Refusal) -> anyhow::Error {
+    anyhow!("refused {e}")
 }
 
 fn number(word: Option<&String>) -> anyhow::Result<u8> {
     let Some(word) = word else {
-        return Err(USAGE.into());
+        return Err(anyhow!(USAGE));
     };
     Ok(word.as_str().parse::<u8>()?)
 }
@@ -125,23 +122,23 @@ fn run(rt: &HostRuntime) -> anyhow::Result<()> {
     let args: Vec<String> = env::args(rt)?.collect(heap)?;
     let words = args.as_slice();
     let Some(name) = words.get(1) else {
-        return Err(USAGE.into());
+        return Err(anyhow!(USAGE));
     };
     match name.as_str() {
         "majority" => match Majority::new(number(words.get(2))?) {
             Ok(system) => serve(rt, &system),
-            Err(e) => Err(refused(heap, e)),
+            Err(e) => Err(refused(e)),
         },
         "grid" => {
             let rows = number(words.get(2))?;
             let columns = number(words.get(3))?;
             match Grid::new(rows.saturating_mul(columns), rows, columns) {
                 Ok(system) => serve(rt, &system),
-                Err(e) => Err(refused(heap, e)),
+                Err(e) => Err(refused(e)),
             }
         }
         "table" => table(rt, number(words.get(2))?, words),
-        _ => Err(USAGE.into()),
+        _ => Err(anyhow!(USAGE)),
     }
 }
 
@@ -150,13 +147,13 @@ fn table(rt: &HostRuntime, cabinets: u8, words: &[String]) -> anyhow::Result<()>
     let mut quorums = Vec::new(rt.alloc());
     for word in words.iter().skip(3) {
         let Some(set) = parse_set(word.as_str()) else {
-            return Err(USAGE.into());
+            return Err(anyhow!(USAGE));
         };
         quorums.push(set)?;
     }
     match Table::new(cabinets, quorums) {
         Ok(system) => serve(rt, &system),
-        Err(e) => Err(refused(rt.alloc(), e)),
+        Err(e) => Err(refused(e)),
     }
 }
 

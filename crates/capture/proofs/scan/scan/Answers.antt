@@ -8,18 +8,18 @@ use Rattle.capture.proofs.scan.scan.Given as given
 use Rattle.capture.proofs.scan.scan.Goals as goal
 
 -- what the words from the place on were read as
-found : (g : given.Over) (c : goal.In-ok-push g) → ReadAs g.V.Value.valid g.V.Value.run g.V.Value.judges (drop c.loop-place.place c.args.words.now) (Ok (c.in-Ok.telegram, c.in-Ok.width))
+found : (g : given.Over) (c : goal.In_ok-push-in-Ok g) → ReadAs g.V.Value.valid g.V.Value.run g.V.Value.judges (drop c.loop-place.place c.args.words.now) (Ok (c.in-Ok.telegram, c.in-Ok.width))
 found g c =
     from (λ ws. ReadAs g.V.Value.valid g.V.Value.run g.V.Value.judges ws (Ok (c.in-Ok.telegram, c.in-Ok.width)))
     c.args.words.now c.loop-place.place c.in-Ok.ensures.reads
 
-reach : (g : given.Over) (c : goal.In-ok-push g) → c.loop-place.place + c.in-Ok.width ≤ length c.args.words.now
+reach : (g : given.Over) (c : goal.In_ok-push-in-Ok g) → c.loop-place.place + c.in-Ok.width ≤ length c.args.words.now
 reach g c =
     let got = found g c in
     within c.args.words.now (telegram_run g.V.Value.run c.in-Ok.telegram) c.loop-place.place c.in-Ok.width c.loop-place.invariant.0 got.1 got.2
 
-pub overflow-add-place : goal.overflow-add-place
-overflow-add-place g c = let h = reach g c in search rules
+pub overflow_add-place : goal.overflow_add-place
+overflow_add-place g c = let h = reach g c in search rules
 
 pub loop-place-preserved-in-Ok : goal.loop-place-preserved-in-Ok
 loop-place-preserved-in-Ok g c =
