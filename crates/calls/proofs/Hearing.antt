@@ -15,7 +15,8 @@ use Rattle.line.specs.declared.types.Stage.TheVariants.{Querying}
 use Rattle.line.specs.declared.types.Station.{Station}
 use Rattle.line.specs.declared.types.Work.{Work}
 use Rattle.line.specs.declared.types.Work.TheVariants.{Read, Write}
-use Rattle.line.specs.Lines.{IsStation, View, hand_of, idle, last_of, live, owed_by, put, size, view}
+use Rattle.line.specs.Lines.{IsStation, View, hand_of, idle, last_of, owed_by, put, size}
+use Rattle.line.specs.Seen.{live, view}
 use Rattle.line.specs.Memories.{Sound}
 use Rattle.line.specs.Steps.{Fits, Room}
 use Rattle.line.proofs.Keeps.{put_here, put_other}

@@ -7,7 +7,8 @@ use Rattle.telegrams.specs.declared.Pair.{Pair}
 use Rattle.line.specs.declared.types.Hand.{Hand}
 use Rattle.line.specs.declared.types.Memory.{Memory}
 use Rattle.line.specs.declared.types.Station.{Station}
-use Rattle.line.specs.Lines.{IsStation, View, answers_of, hand_of, idle, live, put, station_at, view}
+use Rattle.line.specs.Lines.{IsStation, View, hand_of, idle, put, station_at}
+use Rattle.line.specs.Seen.{answers_of, live, view}
 use Rattle.line.proofs.Keeps.{no_member, put_here, put_other}
 use Rattle.calls.proofs.Views.{either}
 

@@ -5,7 +5,8 @@ use Rattle.words.specs.declared.refusal.Refusal.{Refusal}
 use Rattle.words.specs.Refusals.{number}
 use Rattle.line.specs.declared.types.Hand.{Hand}
 use Rattle.line.specs.declared.types.Memory.{Memory}
-use Rattle.line.specs.Lines.{IsStation, View, hand_of, idle, owed_by, owed_in, view}
+use Rattle.line.specs.Lines.{IsStation, View, hand_of, idle, owed_by, owed_in}
+use Rattle.line.specs.Seen.{view}
 use Rattle.line.specs.Memories.{Called, Lends, Sound, refusal}
 use Rattle.line.specs.Runs.{Event, Step}
 use Rattle.line.proofs.Keeps.{none_some}

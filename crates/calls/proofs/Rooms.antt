@@ -3,7 +3,8 @@ use Rattle.std.proofs.Common.{◌≡◌, ℕ, ◌+◌, ◌-◌, ◌<◌, ◌≤�
 use Rattle.line.specs.declared.types.Memory.{Memory}
 use Rattle.line.specs.declared.types.Work.{Work}
 use Rattle.line.specs.declared.types.Work.TheVariants.{Read, Write}
-use Rattle.line.specs.Lines.{owed, size, view}
+use Rattle.line.specs.Lines.{owed, size}
+use Rattle.line.specs.Seen.{view}
 use Rattle.line.specs.Memories.{Sound}
 use Rattle.line.specs.Steps.{Free, Room, wants}
 use Rattle.calls.proofs.Outcomes.{sent_is, written_is}

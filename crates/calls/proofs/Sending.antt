@@ -8,7 +8,8 @@ use Rattle.telegrams.specs.declared.Pair.{Pair}
 use Rattle.telegrams.specs.declared.Telegram.{Telegram}
 use Rattle.line.specs.declared.types.Memory.{Memory}
 use Rattle.line.specs.declared.types.Row.{Row}
-use Rattle.line.specs.Lines.{View, send, view, with_bus}
+use Rattle.line.specs.Lines.{View, send, with_bus}
+use Rattle.line.specs.Seen.{view}
 use Rattle.line.specs.Steps.{Stored}
 use Rattle.calls.specs.Changes.{Becomes, Ends}
 

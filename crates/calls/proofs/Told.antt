@@ -9,7 +9,8 @@ use Rattle.quorums.specs.Sets.{Member}
 use Rattle.quorums.specs.Members.{bit_of_or, member_or_not, only_member, with_member}
 use Rattle.line.specs.declared.types.Hand.{Hand}
 use Rattle.line.specs.declared.types.Station.{Station}
-use Rattle.line.specs.Lines.{answers_of, live, put, station_at}
+use Rattle.line.specs.Lines.{put, station_at}
+use Rattle.line.specs.Seen.{answers_of, live}
 use Rattle.line.proofs.Keeps.{put_here, put_other}
 use Rattle.calls.proofs.Live.{answers_changed, own_answers}
 

@@ -10,7 +10,8 @@ use Rattle.line.specs.declared.types.Hand.{Hand}
 use Rattle.line.specs.declared.types.Station.{Station}
 use Rattle.line.proofs.Keeps.{none_some, some_same}
 use Rattle.line.proofs.Order.{all_one}
-use Rattle.line.specs.Lines.{View, answers_of, idle, live}
+use Rattle.line.specs.Lines.{View, idle}
+use Rattle.line.specs.Seen.{answers_of, live}
 
 -- both ways the same
 pub either : {X : Type 0} (b : Bool) (x : X) → cond b x x ≡ x

@@ -5,7 +5,8 @@ use Rattle.telegrams.specs.declared.Pair.{Pair}
 use Rattle.telegrams.specs.declared.Telegram.{Telegram}
 use Rattle.line.specs.declared.types.Hand.{Hand}
 use Rattle.line.specs.declared.types.Memory.{Memory}
-use Rattle.line.specs.Lines.{View, put, size, view, with_bus}
+use Rattle.line.specs.Lines.{View, put, size, with_bus}
+use Rattle.line.specs.Seen.{view}
 use Rattle.line.specs.Memories.{Lends}
 use Rattle.line.specs.Steps.{Fits, InHand}
 

@@ -6,7 +6,7 @@ use Rattle.line.specs.declared.types.Collected.{Collected}
 use Rattle.line.specs.declared.types.Hand.{Hand}
 use Rattle.line.specs.declared.types.Memory.{Memory}
 use Rattle.line.specs.declared.types.Stage.{Stage}
-use Rattle.line.specs.Lines.{view}
+use Rattle.line.specs.Seen.{view}
 use Rattle.line.specs.Memories.{Sound}
 use Rattle.line.specs.Steps.{InHand, Over, Unfinished}
 use Rattle.calls.specs.declared.ticket.HandedBack.{HandedBack}

@@ -1,6 +1,7 @@
 // A choice is carried out.
 ghost use Rattle.std.specs.Prelude.{◌≡◌, ◌+◌, ◌<◌, ◌≤◌, true, length, Some};
-ghost use Rattle.line.specs.Lines.{IsStation, hand_of, view};
+ghost use Rattle.line.specs.Lines.{IsStation, hand_of};
+ghost use Rattle.line.specs.Seen.{view};
 ghost use Rattle.calls.specs.Changes.{Becomes, Ends};
 ghost use Rattle.calls.specs.Choices.{answer_of, chosen_line, sends};
 

@@ -1,6 +1,7 @@
 // A station begins a job.
 ghost use Rattle.std.specs.Prelude.{◌≡◌, ◌+◌, ◌<◌, ◌≤◌, length};
-ghost use Rattle.line.specs.Lines.{IsStation, begin_row, view};
+ghost use Rattle.line.specs.Lines.{IsStation, begin_row};
+ghost use Rattle.line.specs.Seen.{view};
 ghost use Rattle.line.specs.Memories.{Called};
 ghost use Rattle.line.specs.Runs.{began};
 ghost use Rattle.line.specs.Steps.{begun, wants};

@@ -1,7 +1,8 @@
 // The bus: telegrams are taken off, and join its end.
 ghost use Rattle.std.specs.Prelude.{◌≡◌, ◌+◌, ◌<◌, ◌≤◌, [], ◌∷◌, length};
 ghost use Rattle.std.specs.List.{slice_get, remove};
-ghost use Rattle.line.specs.Lines.{send, to_all, view, with_bus};
+ghost use Rattle.line.specs.Lines.{send, to_all, with_bus};
+ghost use Rattle.line.specs.Seen.{view};
 ghost use Rattle.calls.specs.Changes.{Becomes, Ends};
 
 use crate::places::{at, close_gap};

@@ -2,7 +2,8 @@
 ghost use Rattle.std.specs.Prelude.{◌≡◌, ◌<◌, [], ◌∷◌, length};
 ghost use Rattle.std.specs.List.{remove};
 ghost use Rattle.telegrams.specs.declared.TelegramKind.TheVariants.{Told, Took};
-ghost use Rattle.line.specs.Lines.{View, replica, reply, send, store, view, with_bus};
+ghost use Rattle.line.specs.Lines.{View, replica, reply, send, store, with_bus};
+ghost use Rattle.line.specs.Seen.{view};
 ghost use Rattle.line.specs.Steps.{Stored};
 ghost use Rattle.calls.specs.Changes.{Becomes, Ends, off};
 

@@ -4,7 +4,8 @@ ghost use Rattle.std.specs.List.{slice_get};
 ghost use Rattle.telegrams.specs.declared.Pair.{Pair};
 ghost use Rattle.quorums.specs.Sets.{Member};
 ghost use Rattle.line.specs.declared.types.Work.TheVariants.{Read};
-ghost use Rattle.line.specs.Lines.{last_of, tag_of, view};
+ghost use Rattle.line.specs.Lines.{last_of, tag_of};
+ghost use Rattle.line.specs.Seen.{view};
 ghost use Rattle.calls.specs.Changes.{Placed, told_list};
 ghost use Rattle.calls.specs.Choices.{Chooses, GreatestIn, Holds, LowestIn, LowestOr, Raises, Tells};
 

@@ -2,7 +2,7 @@
 ghost use Rattle.std.specs.Prelude.{◌≡◌, ◌<◌, Some, Err, MatchBool};
 ghost use Rattle.std.specs.List.{slice_get};
 ghost use Rattle.words.specs.declared.refusal.Refusal.{Refusal};
-ghost use Rattle.line.specs.Lines.{view};
+ghost use Rattle.line.specs.Seen.{view};
 ghost use Rattle.line.specs.Memories.{Called, Lends, Sound};
 ghost use Rattle.line.specs.Runs.{delivered};
 ghost use Rattle.line.specs.Steps.{Fits, Handed};

@@ -1,7 +1,8 @@
 // The jobs in the stations' hands.
 ghost use Rattle.std.specs.Prelude.{◌≡◌, ◌*◌, ◌^◌, ◌<◌, ◌≤◌, length, Some, None, MatchBool, bit_or, slice_index_or, slice_set};
 ghost use Rattle.line.specs.declared.types.Hand.{Hand};
-ghost use Rattle.line.specs.Lines.{IsStation, change, hand_of, hold, idle, last_of, put as put_at, view};
+ghost use Rattle.line.specs.Lines.{IsStation, change, hand_of, hold, idle, last_of, put as put_at};
+ghost use Rattle.line.specs.Seen.{view};
 ghost use Rattle.line.specs.Steps.{freed};
 ghost use Rattle.calls.specs.Changes.{Becomes, Ends, Found};
 

@@ -1,6 +1,7 @@
 // What a ticket is good for: collect, give up and shelve use it up, claim gives it back.
 ghost use Rattle.std.specs.Prelude.{◌<◌, length};
-ghost use Rattle.line.specs.Lines.{IsStation, given_row, note, view};
+ghost use Rattle.line.specs.Lines.{IsStation, given_row, note};
+ghost use Rattle.line.specs.Seen.{view};
 ghost use Rattle.line.specs.Memories.{Called};
 ghost use Rattle.line.specs.Runs.{claimed, collected, gave_up, shelved};
 ghost use Rattle.line.specs.Steps.{freed};

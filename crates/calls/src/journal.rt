@@ -1,6 +1,7 @@
 // The journal: rows join its end.
 ghost use Rattle.std.specs.Prelude.{◌≡◌, ◌<◌, length};
-ghost use Rattle.line.specs.Lines.{first_tag, note, view};
+ghost use Rattle.line.specs.Lines.{first_tag, note};
+ghost use Rattle.line.specs.Seen.{view};
 ghost use Rattle.calls.specs.Changes.{Becomes, Ends};
 
 use line::types::{Memory, Row, RowKind};

@@ -3,7 +3,8 @@ ghost use Rattle.std.specs.Prelude.{◌≡◌, ◌+◌, ◌*◌, ◌^◌, ◌<�
 ghost use Rattle.telegrams.specs.declared.TelegramKind.TheVariants.{Set};
 ghost use Rattle.line.specs.declared.types.Hand.{Hand};
 ghost use Rattle.line.specs.declared.types.Stage.TheVariants.{Ended, Setting, Spent};
-ghost use Rattle.line.specs.Lines.{IsStation, at_stage, change, ended_row, hand_of, hold, last_of, note, put, send, spent_row, tagged_row, to_all, view};
+ghost use Rattle.line.specs.Lines.{IsStation, at_stage, change, ended_row, hand_of, hold, last_of, note, put, send, spent_row, tagged_row, to_all};
+ghost use Rattle.line.specs.Seen.{view};
 ghost use Rattle.calls.specs.Changes.{Becomes, Ends, off};
 
 use crate::bus::{send_all, take_off};

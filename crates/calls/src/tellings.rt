@@ -1,7 +1,8 @@
 // What the cabinets told a job.
 ghost use Rattle.std.specs.Prelude.{◌≡◌, ◌*◌, ◌<◌, ◌≤◌, length, Some};
 ghost use Rattle.std.specs.List.{slice_get};
-ghost use Rattle.line.specs.Lines.{IsStation, view};
+ghost use Rattle.line.specs.Lines.{IsStation};
+ghost use Rattle.line.specs.Seen.{view};
 ghost use Rattle.calls.specs.Changes.{Placed, told_list};
 
 use crate::hands::hand_at;

@@ -397,7 +397,7 @@ module _ {V : Type 0} (old new : V) where
 
   unfinished : (k : ℕ) → EndedAt moments write_job k → ⊥
   unfinished k (m, p, at, ends) =
-      let shown = (order_of_jobs (MajorityOf 3) 3 laws (record { count = 0; value = old }) 2 256 1024 moments v16 run).2 in
+      let shown = (order_of_jobs (MajorityOf 3) 3 laws (record { count = 0; value = old }) 2 256 1024 moments v16 run).1 in
       let row = (shown.ended write_job k m p at ends).2 in
       no_row (length m.before.journal) p row.0 row.1 row.2
 

@@ -5,10 +5,11 @@ use Rattle.words.specs.declared.refusal.Refusal.{Refusal}
 use Rattle.line.specs.declared.types.First.{First}
 use Rattle.line.specs.declared.types.Memory.{Memory}
 use Rattle.line.specs.declared.types.Station.{Station}
-use Rattle.line.specs.Lines.{View, idle, owed, view}
+use Rattle.line.specs.Lines.{View, idle, owed}
+use Rattle.line.specs.Seen.{view}
 use Rattle.line.specs.Memories.{Opens, OrderAfter, Sound}
 use Rattle.line.specs.Runs.{Laws, Run}
-use Rattle.line.proofs.Order.{order_of_jobs}
+use Rattle.line.proofs.Order.{order_of_jobs, trips_carry}
 use Rattle.line.proofs.Sounds.{runs}
 
 owed_idle : (V : Type 0) (k : ℕ) → owed {V = V} (replicate k idle) ≡ 0
@@ -51,6 +52,7 @@ module _ {V : Type 0} where
         (λ good.
         let r = runs n F after end ms (opened_sound opens) calls in
         let k = length m.stations.now in
-        let o = order_of_jobs F n laws first k (length m.bus.now) (length m.journal.now) ms (view end) (subst (λ (v : View V). Run F v ms (view end)) good.3 r.0) in
-        (o.0, o.1, o.2, r.1))
+        let run = subst (λ (v : View V). Run F v ms (view end)) good.3 r.0 in
+        let o = order_of_jobs F n laws first k (length m.bus.now) (length m.journal.now) ms (view end) run in
+        (o.0, trips_carry F n laws first k (length m.bus.now) (length m.journal.now) ms (view end) run, o.1, r.1))
         opens

@@ -22,7 +22,7 @@ use Rattle.line.specs.declared.types.Work.{Work}
 use Rattle.line.specs.declared.types.Work.TheVariants.{Write, Read}
 use Rattle.words.specs.declared.refusal.Refusal.{Refusal}
 use Rattle.line.specs.declared.types.Delivered.TheVariants as answer
-use Rattle.line.specs.Runs.{AtEqualTags, AtTime, BeginsAt, Carried, EndedAt, EndsAt, Event, Got, Laws, Moment, OrderOfJobs, Placed, Run, Shown, Sort, StandsBefore, Step, TripsAt, began, collected, delivered, more, none, opened, read, work_of, write}
+use Rattle.line.specs.Runs.{AtEqualTags, AtTime, BeginsAt, Carried, EndedAt, EndsAt, Event, Got, Laws, Moment, OrderOfJobs, Placed, Run, Shown, Sort, StandsBefore, Step, TripsAt, TripsCarry, began, collected, delivered, more, none, opened, read, work_of, write}
 use Rattle.line.specs.declared.types.First.{First}
 use Rattle.line.specs.Steps.{Begins, Collects, Delivers, Over, begun}
 use Rattle.line.specs.Lines.{View, begin_row, first_pair, hand_of, idle, size, tagged_row}
@@ -540,4 +540,7 @@ module _ {V : Type 0} (F : ℕ → Type 0) (n : ℕ) (laws : Laws F n) (first : 
 
   pub order_of_jobs : OrderOfJobs F first n m bus_places journal_places
   order_of_jobs ms v run =
-      (record { total = total run; one_way = one_way run; in_time = in_time run; last_write = last_write run }, carried run, shown run)
+      (record { total = total run; one_way = one_way run; in_time = in_time run; last_write = last_write run }, shown run)
+
+  pub trips_carry : TripsCarry F first n m bus_places journal_places
+  trips_carry ms v run = carried run

@@ -12,7 +12,8 @@ use Rattle.line.specs.declared.types.Stage.TheVariants.{Querying, Setting, Ended
 use Rattle.line.specs.declared.types.Station.{Station}
 use Rattle.line.specs.declared.types.Work.{Work}
 use Rattle.line.specs.declared.types.Work.TheVariants.{Write, Read}
-use Rattle.line.specs.Lines.{View, hand_of, idle, owed, owed_by, owed_in, view}
+use Rattle.line.specs.Lines.{View, hand_of, idle, owed, owed_by, owed_in}
+use Rattle.line.specs.Seen.{view}
 use Rattle.line.specs.Memories.{Calls, Lends, Sound, more, none}
 use Rattle.line.specs.Runs.{Event, Moment, Run, Step}
 use Rattle.line.specs.Runs as run

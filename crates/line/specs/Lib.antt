@@ -4,4 +4,6 @@ pub mod Lines
 pub mod Memories
 pub mod Results
 pub mod Runs
+pub mod Seen
+pub mod Sizes
 pub mod Steps

@@ -1,5 +1,5 @@
 -- What a line's memory holds, with the dead places cut off, and the parts that steps speak of.
-use Rattle.std.specs.Prelude.{ℕ, ◌+◌, ◌-◌, ◌*◌, ◌/◌, ◌%◌, ◌^◌, ◌≤◌, cond, List, [], ◌∷◌, ◌++◌, map, length, take, Some, None, Option, ◌==◌, nat_lt, slice_index_or, slice_set}
+use Rattle.std.specs.Prelude.{ℕ, ◌+◌, ◌-◌, ◌*◌, ◌/◌, ◌%◌, ◌^◌, ◌≤◌, cond, List, [], ◌∷◌, ◌++◌, map, length, take, Some, None, Option, ◌==◌, slice_index_or, slice_set}
 use Rattle.std.specs.List.{slice_get, range_with_len}
 use Rattle.words.specs.declared.tag.Tag.{Tag}
 use Rattle.telegrams.specs.declared.Pair.{Pair}
@@ -40,20 +40,17 @@ module _ {V : Type 0} where
   abbrev pub station_at : List (Station V) → ℕ → Station V
   station_at stations s = slice_index_or stations (s - 1) idle
 
-  -- an answer is live if the cabinet, one of n, has told the station's present job
+  -- an answer is live if the cabinet has told the station's present job
   abbrev pub live : ℕ → List (Pair V) → ℕ → ℕ → Option (Hand V) → Option (Pair V)
   live n answers s c None = None
-  live n answers s c (Some h) = cond (nat_lt c n) (cond (h.told / 2 ^ c % 2 == 1) (slice_get answers ((s - 1) * n + c)) None) None
-
-  abbrev pub answers_of : List (Station V) → ℕ → List (Pair V) → ℕ → ℕ → Option (Pair V)
-  answers_of stations n answers s c = cond (nat_lt 0 s) (live n answers s c (station_at stations s).hand) None
+  live n answers s c (Some h) = cond (h.told / 2 ^ c % 2 == 1) (slice_get answers ((s - 1) * n + c)) None
 
   abbrev pub view : Memory V → View V
   view m = record {
-    first = record { count = m.first_count; value = m.first_value };
+    first = m.first;
     replicas = m.replicas.now;
     stations = m.stations.now;
-    answers = answers_of m.stations.now (length m.replicas.now) m.answers.now;
+    answers = λ s c. live (length m.replicas.now) m.answers.now s c (station_at m.stations.now s).hand;
     bus = take m.sent m.bus.now;
     journal = take m.written m.journal.now;
     bus_places = length m.bus.now;

@@ -4,7 +4,8 @@ use Rattle.words.specs.declared.refusal.Refusal.{Refusal}
 use Rattle.words.specs.Refusals.{number}
 use Rattle.line.specs.declared.types.First.{First}
 use Rattle.line.specs.declared.types.Memory.{Memory}
-use Rattle.line.specs.Lines.{owed, view}
+use Rattle.line.specs.Lines.{owed}
+use Rattle.line.specs.Seen.{view}
 use Rattle.line.specs.Runs.{Carried, Event, Moment, Ordered, Shown, Step, began, claimed, collected, delivered, doubled, gave_up, lost, opened, shelved}
 
 -- the refusal of a call, if it was refused
@@ -36,7 +37,7 @@ module _ {V : Type 0} where
   -- besides, the two ends lie within their places, and no more rows are owed than free
   abbrev pub Sound : ℕ → Memory V → Type 0
   Sound n m =
-      Suits n m.first_count m × (m.sent ≤ length m.bus.now)
+      Suits n m.first.count m × (m.sent ≤ length m.bus.now)
       × (m.written + owed m.stations.now ≤ length m.journal.now)
 
   -- judging it: the rows that are free beyond those owed, or refusal 1

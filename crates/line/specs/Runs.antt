@@ -177,4 +177,9 @@ module _ {V : Type 0} where
   -- the order of jobs of every run that follows an opening
   abbrev pub OrderOfJobs : (ℕ → Type 0) → First V → ℕ → ℕ → ℕ → ℕ → Type 0
   OrderOfJobs F first n m bus_places journal_places =
-      (ms : List (Moment V)) (v : View V) → Run F (opened first n m bus_places journal_places) ms v → Ordered ms first.value × Carried ms × Shown ms v
+      (ms : List (Moment V)) (v : View V) → Run F (opened first n m bus_places journal_places) ms v → Ordered ms first.value × Shown ms v
+
+  -- in every such run a second trip carries its job's tag and value
+  abbrev pub TripsCarry : (ℕ → Type 0) → First V → ℕ → ℕ → ℕ → ℕ → Type 0
+  TripsCarry F first n m bus_places journal_places =
+      (ms : List (Moment V)) (v : View V) → Run F (opened first n m bus_places journal_places) ms v → Carried ms

@@ -1,13 +1,15 @@
 // The line register: a setting that many stations write and read, kept in the cabinets of a line.
 #![tactic(auto)]
 
-ghost use Rattle.std.specs.Prelude.{◌≡◌, ℕ, ◌+◌, ◌≤◌, length, MatchBool};
+ghost use Rattle.std.specs.Prelude.{◌≡◌, ℕ, ◌+◌, ◌≤◌, length, MatchBool, MatchResult};
+ghost use Rattle.words.specs.Refusals.{number};
 ghost use Rattle.line.specs.declared.types.First.{First};
 ghost use Rattle.line.specs.Known.{KnownFacts};
 ghost use Rattle.line.specs.Lines.{owed, owed_in};
 ghost use Rattle.line.specs.Memories.{Judges, Suits};
 ghost use Rattle.line.specs.Results.{OneResult};
-ghost use Rattle.line.specs.Runs.{OrderOfJobs};
+ghost use Rattle.line.specs.Runs.{OrderOfJobs, TripsCarry};
+ghost use Rattle.line.specs.Sizes.{Sized};
 
 pub mod types;
 
@@ -65,7 +67,7 @@ fn rows_owed<V>(stations: &[Station<V>]) -> usize
 fn check_rows<V>(n: u8, m: &Memory<'_, V>) -> Result<usize, Refusal>
     ensures { Judges n m.now result }
 {
-    if !suits(n, m.first_count, m) || m.sent > m.bus.len() {
+    if !suits(n, m.first.count, m) || m.sent > m.bus.len() {
         return Err(Refusal::BadPlan);
     }
     let taken = rows_owed(m.stations).saturating_add(m.written);
@@ -82,10 +84,41 @@ pub fn check<V, S: QuorumSystem>(system: &S, m: &Memory<'_, V>) -> Result<usize,
     check_rows(system.cabinets(), m)
 }
 
+// Whether the lengths, the two ends and the first count suit a line of n cabinets.
+fn fits<V>(n: u8, m: &Memory<'_, V>) -> Result<(), Refusal>
+    ensures { MatchResult result (λ _. Sized n m.now) (λ e. (number e ≡ 1) × (Sized n m.now → ⊥)) }
+{
+    let n = usize::from(n);
+    let stations = m.stations.len();
+    if m.first.count > MAX_COUNT || m.replicas.len() != n || stations < 1 || stations > 32 {
+        return Err(Refusal::BadPlan);
+    }
+    if m.answers.len() != n * stations {
+        return Err(Refusal::BadPlan);
+    }
+    if m.bus.len() < n || m.bus.len() > 1024 || m.sent > m.bus.len() {
+        return Err(Refusal::BadPlan);
+    }
+    if m.journal.len() < 3 || m.journal.len() > 4096 || m.written > m.journal.len() {
+        return Err(Refusal::BadPlan);
+    }
+    Ok(())
+}
+
+// Whether the memory lent suits a line of the system's cabinets.
+pub fn check_sizes<V, S: QuorumSystem>(system: &S, m: &Memory<'_, V>) -> Result<(), Refusal>
+    ensures sizes { MatchResult result (λ _. Sized (S.size system.now) m.now) (λ e. (number e ≡ 1) × (Sized (S.size system.now) m.now → ⊥)) }
+    ensures order { (first : First V) (stations bus_places journal_places : ℕ) → OrderOfJobs (S.quorum system.now) first (S.size system.now) stations bus_places journal_places }
+    ensures single { OneResult V (S.quorum system.now) }
+{
+    fits(system.cabinets(), m)
+}
+
 // Does nothing. Its contract holds the theorems about the steps, for every kind of value and every quorum system: the order
 // of jobs in every run, that a call has one result, and the known facts.
 pub fn steps_hold<V, S: QuorumSystem>(_system: &S)
-    ensures order { (first : First V) (stations busPlaces journalPlaces : ℕ) → OrderOfJobs (S.quorum _system.now) first (S.size _system.now) stations busPlaces journalPlaces }
+    ensures order { (first : First V) (stations bus_places journal_places : ℕ) → OrderOfJobs (S.quorum _system.now) first (S.size _system.now) stations bus_places journal_places }
     ensures single { OneResult V (S.quorum _system.now) }
+    ensures carried { (first : First V) (stations bus_places journal_places : ℕ) → TripsCarry (S.quorum _system.now) first (S.size _system.now) stations bus_places journal_places }
     ensures known { KnownFacts V (S.quorum _system.now) }
 {}

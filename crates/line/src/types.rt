@@ -79,8 +79,7 @@ pub struct Row<V> {
 
 #[derive(Drop)]
 pub struct Memory<'m, V> {
-    pub first_count: u32,
-    pub first_value: V,
+    pub first: First<V>,
     // one for each cabinet
     pub replicas: &'m mut [Pair<V>],
     // one for each station

@@ -1,7 +1,8 @@
 use Rattle.std.proofs.Common.{◌≡◌, ◌-◌, true, length, Some, sym, refl, ap, ◌∙◌, subst, arith}
 use Rattle.std.proofs.lemmas.List.{get_or-set_same, length-set}
 use Rattle.line.specs.declared.types.Station.{Station}
-use Rattle.line.specs.Lines.{View, hand_of, idle, view}
+use Rattle.line.specs.Lines.{View, hand_of, idle}
+use Rattle.line.specs.Seen.{view}
 use Rattle.calls.specs.declared.choice.Choice.{Choice}
 use Rattle.calls.specs.Changes.{Becomes}
 use Rattle.calls.specs.Choices.{answer_of, chosen_line, second_trip, sends, tagged_line}

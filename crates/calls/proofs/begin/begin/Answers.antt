@@ -1,6 +1,7 @@
 use Rattle.std.proofs.Common.{ℕ, ◌<◌, ◌≤◌, length, Ok, Err, sym, refl, ap, ◌∙◌, subst, inl, inr, arith}
 use Rattle.words.specs.declared.refusal.Refusal.TheVariants.{BookFull, BusFull}
-use Rattle.line.specs.Lines.{size, view}
+use Rattle.line.specs.Lines.{size}
+use Rattle.line.specs.Seen.{view}
 use Rattle.line.specs.Runs.{began}
 use Rattle.line.specs.Steps.{wants}
 use Rattle.calls.proofs.Outcomes.{accepted, refused, sound_ends, written_is}

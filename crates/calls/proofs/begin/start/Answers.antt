@@ -1,5 +1,6 @@
 use Rattle.std.proofs.Common.{◌≡◌, length, ap, ◌∙◌, arith}
-use Rattle.line.specs.Lines.{View, view}
+use Rattle.line.specs.Lines.{View}
+use Rattle.line.specs.Seen.{view}
 use Rattle.calls.proofs.Sending.{bus_kept}
 use Rattle.calls.proofs.begin.start.Goals as goal
 

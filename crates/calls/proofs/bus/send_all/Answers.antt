@@ -1,7 +1,8 @@
 use Rattle.std.proofs.Common.{◌≡◌, ℕ, map, ap, ◌∙◌, arith}
 use Rattle.std.specs.List.{range_with_len}
 use Rattle.telegrams.specs.declared.Telegram.{Telegram}
-use Rattle.line.specs.Lines.{send, size, view}
+use Rattle.line.specs.Lines.{send, size}
+use Rattle.line.specs.Seen.{view}
 use Rattle.calls.proofs.Outcomes.{lends_on, lends_same}
 use Rattle.calls.proofs.Sending.{send_more, send_none, sent_so_far}
 use Rattle.calls.proofs.bus.send_all.Goals as goal

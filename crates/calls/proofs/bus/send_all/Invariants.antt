@@ -1,6 +1,7 @@
 use Rattle.std.proofs.Common.{map}
 use Rattle.std.specs.List.{range_with_len}
-use Rattle.line.specs.Lines.{send, view}
+use Rattle.line.specs.Lines.{send}
+use Rattle.line.specs.Seen.{view}
 use Rattle.calls.specs.Changes.{Becomes}
 use Rattle.calls.proofs.bus.send_all.Given as goal
 

@@ -1,6 +1,7 @@
 use Rattle.std.proofs.Common.{[], ◌∷◌, ap, ◌∙◌, subst}
 use Rattle.telegrams.specs.declared.TelegramKind.TheVariants.{Took}
-use Rattle.line.specs.Lines.{View, reply, send, view}
+use Rattle.line.specs.Lines.{View, reply, send}
+use Rattle.line.specs.Seen.{view}
 use Rattle.line.specs.Steps.{Stored}
 use Rattle.calls.proofs.Outcomes.{lends_on}
 use Rattle.calls.proofs.Sending.{place_freed, stored_bus}

@@ -1,7 +1,8 @@
 use Rattle.std.proofs.Common.{refl, subst, inl, inr}
 use Rattle.words.specs.Tags.{Before, Upto}
 use Rattle.telegrams.specs.declared.Pair.{Pair}
-use Rattle.line.specs.Lines.{store, view}
+use Rattle.line.specs.Lines.{store}
+use Rattle.line.specs.Seen.{view}
 use Rattle.calls.proofs.Outcomes.{lends_same}
 use Rattle.calls.proofs.cabinet.offer.Goals as goal
 

@@ -1,6 +1,7 @@
 use Rattle.std.proofs.Common.{ℕ, sym, ap, ◌∙◌, arith}
 use Rattle.std.proofs.lemmas.Option.{slice_get-get_or}
-use Rattle.line.specs.Lines.{first_pair, replica, view}
+use Rattle.line.specs.Lines.{first_pair, replica}
+use Rattle.line.specs.Seen.{view}
 use Rattle.line.proofs.Keeps.{some_same}
 use Rattle.calls.proofs.cabinet.replica_at.Goals as goal
 

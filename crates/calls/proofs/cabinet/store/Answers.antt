@@ -1,5 +1,5 @@
 use Rattle.std.proofs.Common.{ℕ, set, refl, ap, ◌∙◌}
-use Rattle.line.specs.Lines.{answers_of}
+use Rattle.line.specs.Seen.{answers_of}
 use Rattle.calls.proofs.Views.{same_view}
 use Rattle.calls.proofs.cabinet.store.Goals as goal
 

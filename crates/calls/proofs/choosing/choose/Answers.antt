@@ -1,6 +1,7 @@
 use Rattle.std.proofs.Common.{sym, subst}
 use Rattle.line.specs.declared.types.Work.{Work}
-use Rattle.line.specs.Lines.{last_of, view}
+use Rattle.line.specs.Lines.{last_of}
+use Rattle.line.specs.Seen.{view}
 use Rattle.calls.specs.Changes.{told_list}
 use Rattle.calls.specs.Choices.{Chooses}
 use Rattle.calls.proofs.choosing.choose.Goals as goal

@@ -1,6 +1,6 @@
 use Rattle.std.proofs.Common.{◌≡◌, ℕ, ◌<◌, ◌≤◌, ◌⊎◌}
 use Rattle.telegrams.specs.declared.Pair.{Pair}
-use Rattle.line.specs.Lines.{view}
+use Rattle.line.specs.Seen.{view}
 use Rattle.calls.specs.Changes.{told_list}
 use Rattle.calls.specs.Choices.{Tells}
 use Rattle.calls.proofs.choosing.greatest.Given as goal

@@ -1,7 +1,7 @@
 use Rattle.std.proofs.Common.{⊎_elim, arith}
 use Rattle.std.proofs.lemmas.Bool.{cases_eq}
 use Rattle.calls.proofs.Tellers.{told_below, told_here, told_length}
-use Rattle.line.specs.Lines.{view}
+use Rattle.line.specs.Seen.{view}
 use Rattle.calls.specs.Changes.{told_list}
 use Rattle.calls.proofs.choosing.lowest.Goals as goal
 

@@ -4,7 +4,8 @@ use Rattle.words.specs.declared.tag.Tag.{Tag}
 use Rattle.views.specs.Views.{Judged}
 use Rattle.views.specs.declared.Verdict.{Verdict}
 use Rattle.views.specs.declared.Verdict.TheVariants.{OneTrip, SecondTrip}
-use Rattle.line.specs.Lines.{size, tag_of, view}
+use Rattle.line.specs.Lines.{size, tag_of}
+use Rattle.line.specs.Seen.{view}
 use Rattle.calls.specs.Changes.{told_list}
 use Rattle.calls.proofs.Tellers.{holder_told, told_below}
 use Rattle.calls.proofs.choosing.read.Goals as goal

@@ -2,7 +2,8 @@ use Rattle.std.proofs.Common.{◌≡◌, ℕ, ◌+◌, ◌<◌, List, [], ◌∷
 use Rattle.std.proofs.lemmas.List.{length-set, map-append, take_all, take_more, take_more_set}
 use Rattle.std.proofs.lemmas.Option.{slice_get-get_or}
 use Rattle.telegrams.specs.declared.Pair.{Pair}
-use Rattle.line.specs.Lines.{size, tag_of, view}
+use Rattle.line.specs.Lines.{size, tag_of}
+use Rattle.line.specs.Seen.{view}
 use Rattle.line.proofs.Keeps.{some_same}
 use Rattle.calls.specs.Changes.{told_list}
 use Rattle.calls.proofs.Tellers.{told_length}

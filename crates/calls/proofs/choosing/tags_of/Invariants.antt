@@ -1,5 +1,6 @@
 use Rattle.std.proofs.Common.{◌≡◌, map, length, take}
-use Rattle.line.specs.Lines.{tag_of, view}
+use Rattle.line.specs.Lines.{tag_of}
+use Rattle.line.specs.Seen.{view}
 use Rattle.calls.specs.Changes.{told_list}
 use Rattle.calls.proofs.choosing.tags_of.Given as goal
 

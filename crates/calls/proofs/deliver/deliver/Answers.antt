@@ -1,6 +1,6 @@
 use Rattle.std.proofs.Common.{Err, sym, refl, ◌∙◌, inl}
 use Rattle.words.specs.declared.refusal.Refusal.TheVariants.{NoTelegram}
-use Rattle.line.specs.Lines.{view}
+use Rattle.line.specs.Seen.{view}
 use Rattle.line.specs.Runs.{delivered}
 use Rattle.calls.proofs.Hearing.{place_below}
 use Rattle.calls.proofs.Outcomes.{refused, sound_ends}

@@ -1,7 +1,7 @@
 use Rattle.std.proofs.Common.{◌≡◌, ℕ, Ok, sym, refl, subst, arith}
 use Rattle.telegrams.specs.declared.TelegramKind.{TelegramKind}
 use Rattle.line.specs.declared.types.Delivered.TheVariants as answer
-use Rattle.line.specs.Lines.{view}
+use Rattle.line.specs.Seen.{view}
 use Rattle.line.specs.Steps.{Handed}
 use Rattle.calls.specs.Changes.{off}
 use Rattle.calls.proofs.deliver.hand_over.Goals as goal

@@ -1,7 +1,8 @@
 use Rattle.std.proofs.Common.{ℕ, ◌-◌, length, get_or, set, Some, Option, sym, refl, ap, ◌∙◌}
 use Rattle.line.specs.declared.types.Hand.{Hand}
 use Rattle.line.specs.declared.types.Station.{Station}
-use Rattle.line.specs.Lines.{answers_of, idle, live, station_at}
+use Rattle.line.specs.Lines.{idle, station_at}
+use Rattle.line.specs.Seen.{answers_of, live}
 use Rattle.calls.proofs.Live.{answers_changed, own_answers, same_told}
 use Rattle.calls.proofs.Views.{same_view}
 use Rattle.calls.proofs.hands.hold.Goals as goal

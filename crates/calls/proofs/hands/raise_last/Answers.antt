@@ -1,6 +1,7 @@
 use Rattle.std.proofs.Common.{ℕ, ◌-◌, length, get_or, set, sym, refl, ap, ◌∙◌}
 use Rattle.line.specs.declared.types.Station.{Station}
-use Rattle.line.specs.Lines.{answers_of, idle, station_at}
+use Rattle.line.specs.Lines.{idle, station_at}
+use Rattle.line.specs.Seen.{answers_of}
 use Rattle.calls.proofs.Live.{answers_changed, own_answers}
 use Rattle.calls.proofs.Views.{same_view}
 use Rattle.calls.proofs.hands.raise_last.Goals as goal

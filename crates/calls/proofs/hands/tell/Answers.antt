@@ -1,6 +1,7 @@
 use Rattle.std.proofs.Common.{◌≡◌, ℕ, ◌+◌, ◌-◌, ◌*◌, ◌<◌, List, length, get_or, set, Some, sym, refl, ap, ◌∙◌, arith}
 use Rattle.telegrams.specs.declared.Pair.{Pair}
-use Rattle.line.specs.Lines.{answers_of, idle, station_at}
+use Rattle.line.specs.Lines.{idle, station_at}
+use Rattle.line.specs.Seen.{answers_of}
 use Rattle.calls.proofs.Told.{answers_told, within_answers}
 use Rattle.calls.proofs.Views.{same_view}
 use Rattle.calls.proofs.hands.tell.Goals as goal

@@ -2,7 +2,7 @@ use Rattle.std.proofs.Common.{◌≡◌, ℕ, List, length, replicate, refl, ap,
 use Rattle.words.specs.declared.refusal.Refusal.TheVariants.{BadPlan}
 use Rattle.telegrams.specs.declared.Pair.{Pair}
 use Rattle.line.specs.declared.types.Station.{Station}
-use Rattle.line.specs.Lines.{answers_of}
+use Rattle.line.specs.Seen.{answers_of}
 use Rattle.line.specs.Memories.{Suits}
 use Rattle.line.specs.Runs.{Laws}
 use Rattle.line.proofs.Openings.{after_opening}

@@ -1,5 +1,6 @@
 use Rattle.std.proofs.Common.{◌≡◌, ℕ, sym, ◌∙◌, arith}
-use Rattle.line.specs.Lines.{hand_of, view}
+use Rattle.line.specs.Lines.{hand_of}
+use Rattle.line.specs.Seen.{view}
 use Rattle.calls.specs.Changes.{off}
 use Rattle.calls.proofs.Arriving.{told_arrives, took_arrives}
 use Rattle.calls.proofs.station.at_station.Goals as goal

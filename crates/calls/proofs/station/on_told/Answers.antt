@@ -2,7 +2,8 @@ use Rattle.std.proofs.Common.{◌≡◌, ℕ, ◌<◌, Some, None, Ok, Option, R
 use Rattle.words.specs.declared.refusal.Refusal.{Refusal}
 use Rattle.quorums.specs.Sets.{Member, Picked}
 use Rattle.line.specs.declared.types.Delivered.{Delivered}
-use Rattle.line.specs.Lines.{View, size, view}
+use Rattle.line.specs.Lines.{View, size}
+use Rattle.line.specs.Seen.{view}
 use Rattle.line.specs.Steps.{Chosen}
 use Rattle.calls.specs.Changes.{off}
 use Rattle.calls.specs.Choices.{answer_of, chosen_line}

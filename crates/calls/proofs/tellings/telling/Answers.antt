@@ -1,5 +1,6 @@
 use Rattle.std.proofs.Common.{◌≡◌, ℕ, Some, sym, ap, ◌∙◌, subst}
-use Rattle.line.specs.Lines.{put, size, view}
+use Rattle.line.specs.Lines.{put, size}
+use Rattle.line.specs.Seen.{view}
 use Rattle.line.proofs.Keeps.{put_here, put_other}
 use Rattle.calls.proofs.Chosen.{nth_counted}
 use Rattle.calls.proofs.tellings.telling.Goals as goal

@@ -1,7 +1,7 @@
 use Rattle.std.proofs.Common.{Err, sym, refl, ◌∙◌, inl, inr, arith}
 use Rattle.words.specs.declared.refusal.Refusal.TheVariants.{BusFull, NoTelegram}
 use Rattle.line.specs.Runs.{doubled}
-use Rattle.line.specs.Lines.{view}
+use Rattle.line.specs.Seen.{view}
 use Rattle.calls.proofs.Views.{none_past}
 use Rattle.calls.proofs.Outcomes.{refused, sent_is}
 use Rattle.calls.proofs.wire.double.Goals as goal
