@@ -16,7 +16,7 @@ use Rattle.line.specs.declared.types.Station.{Station}
 use Rattle.line.specs.declared.types.Work.{Work}
 use Rattle.line.specs.declared.types.Work.TheVariants.{Read, Write}
 use Rattle.line.specs.Lines.{IsStation, View, hand_of, idle, last_of, owed_by, put, size}
-use Rattle.line.specs.Seen.{live, view}
+use Rattle.line.specs.Seen.{live_in_line, seen}
 use Rattle.line.specs.Memories.{Sound}
 use Rattle.line.specs.Steps.{Fits, Room}
 use Rattle.line.proofs.Keeps.{put_here, put_other}
@@ -36,12 +36,12 @@ querying_owes : {V : Type 0} (work : Work V) → 1 ≤ owed_by work Querying
 querying_owes (Write x) = omega arith
 querying_owes Read = omega arith
 
-module _ {V : Type 0} (n : ℕ) (few : n ≤ 16) (m : Memory V) (sound : Sound n m) (t : Telegram V) (fits : Fits (view m) t) where
+module _ {V : Type 0} (n : ℕ) (few : n ≤ 16) (m : Memory V) (sound : Sound n m) (t : Telegram V) (fits : Fits (seen m) t) where
   abbrev s : ℕ
   s = t.station
 
   abbrev v : View V
-  v = view m
+  v = seen m
 
   wide : length m.answers.now ≡ length m.replicas.now * length m.stations.now
   wide = sound.0.4 ∙ ap (λ (k : ℕ). k * length m.stations.now) (sym sound.0.1)
@@ -73,7 +73,7 @@ module _ {V : Type 0} (n : ℕ) (few : n ≤ 16) (m : Memory V) (sound : Sound n
           let x = some_place m.answers.now ((s - 1) * size v + k) (within_answers (size v) (length m.stations.now) (s - 1) k (length m.answers.now) row below wide) in (
             x.0,
             own_answers m.stations.now (size v) m.answers.now s k fits.1.0
-                ∙ ap (live (size v) m.answers.now s k) held
+                ∙ ap (live_in_line (size v) m.answers.now s k) held
                 ∙ cond-true (ltb k (size v)) _ None (lt-ltb k (size v) below)
                 ∙ cond-true (eqb (h.told / 2 ^ k % 2) 1) _ None (eq-eqb (h.told / 2 ^ k % 2) 1 member) ∙ x.1,
           )
@@ -114,7 +114,7 @@ module _ {V : Type 0} (n : ℕ) (few : n ≤ 16) (m : Memory V) (sound : Sound n
 
       -- after the telling is kept
       module _ (a : Memory V) (becomes : Becomes m w a) where
-        pub after_held : hand_of (view a) s ≡ Some hand
+        pub after_held : hand_of (seen a) s ≡ Some hand
         after_held =
             ap (λ (x : View V). hand_of x s) becomes.0
             ∙ ap (λ (st : Station V). st.hand) (get_or-set_same v.stations (s - 1) (record { last = last_of v s; hand = Some hand }) idle (omega (arith, fits.1.0, fits.1.1)))

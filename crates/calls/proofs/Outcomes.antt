@@ -6,7 +6,7 @@ use Rattle.words.specs.Refusals.{number}
 use Rattle.line.specs.declared.types.Hand.{Hand}
 use Rattle.line.specs.declared.types.Memory.{Memory}
 use Rattle.line.specs.Lines.{IsStation, View, hand_of, idle, owed_by, owed_in}
-use Rattle.line.specs.Seen.{view}
+use Rattle.line.specs.Seen.{seen}
 use Rattle.line.specs.Memories.{Called, Lends, Sound, refusal}
 use Rattle.line.specs.Runs.{Event, Step}
 use Rattle.line.proofs.Keeps.{none_some}
@@ -17,10 +17,10 @@ module _ {V : Type 0} where
   pub sound_ends : (n : ℕ) (m : Memory V) → Sound n m → Ends m
   sound_ends n m sound = (sound.1, omega (arith, sound.2))
 
-  pub sent_is : (n : ℕ) (m : Memory V) → Sound n m → length (view m).bus ≡ m.sent
+  pub sent_is : (n : ℕ) (m : Memory V) → Sound n m → length (seen m).bus ≡ m.sent
   sent_is n m sound = length-take-le m.sent m.bus.now sound.1
 
-  pub written_is : (n : ℕ) (m : Memory V) → Sound n m → length (view m).journal ≡ m.written
+  pub written_is : (n : ℕ) (m : Memory V) → Sound n m → length (seen m).journal ≡ m.written
   written_is n m sound = length-take-le m.written m.journal.now (sound_ends n m sound).1
 
   pub lends_same : (m : Memory V) → Ends m → Lends m m
@@ -33,16 +33,16 @@ module _ {V : Type 0} where
     pub unsound : (Sound n m → ⊥) → (x : Refusal) → refusal e ≡ Some x → number x ≡ 1 → Called n F e m m
     unsound bad x is one = inl (bad, (x, is, one), refl)
 
-    pub refused : Sound n m → Step F (view m) e (view m) → Called n F e m m
+    pub refused : Sound n m → Step F (seen m) e (seen m) → Called n F e m m
     refused sound step = inr (sound, step, lends_same m (sound_ends n m sound), λ x is. refl)
 
-    pub accepted : (after : Memory V) (w : View V) → Sound n m → Step F (view m) e w → Becomes m w after → refusal e ≡ None → Called n F e m after
+    pub accepted : (after : Memory V) (w : View V) → Sound n m → Step F (seen m) e w → Becomes m w after → refusal e ≡ None → Called n F e m after
     accepted after w sound step becomes ok =
-        inr (sound, subst (Step F (view m) e) (sym becomes.0) step, becomes.1, λ x is. none_some x (sym ok ∙ is))
+        inr (sound, subst (Step F (seen m) e) (sym becomes.0) step, becomes.1, λ x is. none_some x (sym ok ∙ is))
 
   -- the rows owed for one job are free
-  pub rows_left : (n : ℕ) (m : Memory V) (s : ℕ) (h : Hand V) → Sound n m → IsStation (view m) s → hand_of (view m) s ≡ Some h → m.written + owed_by h.work h.stage ≤ length m.journal.now
+  pub rows_left : (n : ℕ) (m : Memory V) (s : ℕ) (h : Hand V) → Sound n m → IsStation (seen m) s → hand_of (seen m) s ≡ Some h → m.written + owed_by h.work h.stage ≤ length m.journal.now
   rows_left n m s h sound line held =
       let xs = m.stations.now in
-      let mine : owed_in (hand_of (view m) s) ≡ owed_by h.work h.stage = ap owed_in held in
+      let mine : owed_in (hand_of (seen m) s) ≡ owed_by h.work h.stage = ap owed_in held in
       omega (arith, sound.2, owed_set xs (s - 1) idle (omega (arith, line.0, line.1)))

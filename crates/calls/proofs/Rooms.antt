@@ -4,16 +4,16 @@ use Rattle.line.specs.declared.types.Memory.{Memory}
 use Rattle.line.specs.declared.types.Work.{Work}
 use Rattle.line.specs.declared.types.Work.TheVariants.{Read, Write}
 use Rattle.line.specs.Lines.{owed, size}
-use Rattle.line.specs.Seen.{view}
+use Rattle.line.specs.Seen.{seen}
 use Rattle.line.specs.Memories.{Sound}
 use Rattle.line.specs.Steps.{Free, Room, wants}
 use Rattle.calls.proofs.Outcomes.{sent_is, written_is}
 
 module _ {V : Type 0} (n : ℕ) (m : Memory V) (sound : Sound n m) where
-  pub has_room : (k : ℕ) → k ≤ length m.bus.now - m.sent → Room (view m) k
+  pub has_room : (k : ℕ) → k ≤ length m.bus.now - m.sent → Room (seen m) k
   has_room k l = omega (arith, sent_is n m sound, sound.1)
 
-  pub no_room : (k : ℕ) → length m.bus.now - m.sent < k → Room (view m) k → ⊥
+  pub no_room : (k : ℕ) → length m.bus.now - m.sent < k → Room (seen m) k → ⊥
   no_room k l room = omega (arith, sent_is n m sound, sound.1)
 
   -- the places for so many more
@@ -24,10 +24,10 @@ module _ {V : Type 0} (n : ℕ) (m : Memory V) (sound : Sound n m) where
   few_cabinets few = omega (arith, sound.0.1)
 
   module _ (free : ℕ) (is : m.written + owed m.stations.now + free ≡ length m.journal.now) where
-    pub has_free : (k : ℕ) → k ≤ free → Free (view m) k
+    pub has_free : (k : ℕ) → k ≤ free → Free (seen m) k
     has_free k l = omega (arith, written_is n m sound)
 
-    pub not_free : (k : ℕ) → free < k → Free (view m) k → ⊥
+    pub not_free : (k : ℕ) → free < k → Free (seen m) k → ⊥
     not_free k l f = omega (arith, written_is n m sound)
 
     pub row_left : (work : Work V) → wants work ≤ free → m.written < length m.journal.now

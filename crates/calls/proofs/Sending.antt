@@ -9,12 +9,12 @@ use Rattle.telegrams.specs.declared.Telegram.{Telegram}
 use Rattle.line.specs.declared.types.Memory.{Memory}
 use Rattle.line.specs.declared.types.Row.{Row}
 use Rattle.line.specs.Lines.{View, send, with_bus}
-use Rattle.line.specs.Seen.{view}
+use Rattle.line.specs.Seen.{seen}
 use Rattle.line.specs.Steps.{Stored}
 use Rattle.calls.specs.Changes.{Becomes, Ends}
 
 module _ {V : Type 0} where
-  pub bus_length : (m : Memory V) → m.sent ≤ length m.bus.now → length (view m).bus ≡ m.sent
+  pub bus_length : (m : Memory V) → m.sent ≤ length m.bus.now → length (seen m).bus ≡ m.sent
   bus_length m within = length-take-le m.sent m.bus.now within
 
   pub send_none : (v : View V) → v ≡ send v []
@@ -27,19 +27,19 @@ module _ {V : Type 0} where
       ∙ ap (with_bus v) (append_assoc v.bus (map f (range_with_len 0 k)) (f k ∷ []) ∙ ap (λ (ts : List (Telegram V)). v.bus ++ ts) (sym (map-range_with_len_more f 0 k k (omega arith))))
 
   -- how many are on the bus after k
-  pub sent_so_far : (m0 m : Memory V) (f : ℕ → Telegram V) (k : ℕ) → m0.sent ≤ length m0.bus.now → m.sent ≤ length m.bus.now → view m ≡ send (view m0) (map f (range_with_len 0 k)) → (m.sent ≡ m0.sent + k) × (length m.bus.now ≡ length m0.bus.now)
+  pub sent_so_far : (m0 m : Memory V) (f : ℕ → Telegram V) (k : ℕ) → m0.sent ≤ length m0.bus.now → m.sent ≤ length m.bus.now → seen m ≡ send (seen m0) (map f (range_with_len 0 k)) → (m.sent ≡ m0.sent + k) × (length m.bus.now ≡ length m0.bus.now)
   sent_so_far m0 m f k within0 within is =
-      let all = ap (λ (v : View V). length v.bus) is ∙ length-append (view m0).bus (map f (range_with_len 0 k)) in
+      let all = ap (λ (v : View V). length v.bus) is ∙ length-append (seen m0).bus (map f (range_with_len 0 k)) in
       (omega (arith, bus_length m0 within0, bus_length m within, length-map-range_with_len f 0 k), ap (λ (v : View V). v.bus_places) is)
 
   -- where no telegram came or went
-  pub bus_kept : (m a : Memory V) → m.sent ≤ length m.bus.now → a.sent ≤ length a.bus.now → (view a).bus ≡ (view m).bus → a.sent ≡ m.sent
+  pub bus_kept : (m a : Memory V) → m.sent ≤ length m.bus.now → a.sent ≤ length a.bus.now → (seen a).bus ≡ (seen m).bus → a.sent ≡ m.sent
   bus_kept m a within after is = sym (bus_length a after) ∙ ap (λ (ts : List (Telegram V)). length ts) is ∙ bus_length m within
 
   -- after one telegram was taken off there is room for one
-  pub place_freed : (m a : Memory V) (place : ℕ) → Ends m → Ends a → place < m.sent → (view a).bus ≡ remove (view m).bus place → length a.bus.now ≡ length m.bus.now → (a.sent + 1 ≡ m.sent) × (a.sent < length a.bus.now)
+  pub place_freed : (m a : Memory V) (place : ℕ) → Ends m → Ends a → place < m.sent → (seen a).bus ≡ remove (seen m).bus place → length a.bus.now ≡ length m.bus.now → (a.sent + 1 ≡ m.sent) × (a.sent < length a.bus.now)
   place_freed m a place ends after l bus wide =
-      let less : length (view a).bus + 1 ≡ length (view m).bus = ap (λ (ts : List (Telegram V)). length ts + 1) bus ∙ length-remove (view m).bus place (omega (arith, bus_length m ends.0)) in
+      let less : length (seen a).bus + 1 ≡ length (seen m).bus = ap (λ (ts : List (Telegram V)). length ts + 1) bus ∙ length-remove (seen m).bus place (omega (arith, bus_length m ends.0)) in
       let one : a.sent + 1 ≡ m.sent = omega (arith, bus_length m ends.0, bus_length a after.0) in
       (one, omega (arith, ends.0))
 
@@ -53,17 +53,17 @@ module _ {V : Type 0} where
     pub ends_after : Ends a
     ends_after = (becomes.1.5, becomes.1.7)
 
-    pub same_rows : v.journal ≡ (view m).journal → v.journal_places ≡ (view m).journal_places → (a.written ≡ m.written) × (length a.journal.now ≡ length m.journal.now)
+    pub same_rows : v.journal ≡ (seen m).journal → v.journal_places ≡ (seen m).journal_places → (a.written ≡ m.written) × (length a.journal.now ≡ length m.journal.now)
     same_rows rows long =
         let is = ap (λ (z : View V). length z.journal) becomes.0 ∙ ap (λ (xs : List (Row V)). length xs) rows in (
           sym (length-take-le a.written a.journal.now becomes.1.7) ∙ is ∙ length-take-le m.written m.journal.now ends.1,
           ap (λ (z : View V). z.journal_places) becomes.0 ∙ long,
         )
 
-    pub row_free : v.journal ≡ (view m).journal → v.journal_places ≡ (view m).journal_places → m.written < length m.journal.now → Ends a × (a.written < length a.journal.now)
+    pub row_free : v.journal ≡ (seen m).journal → v.journal_places ≡ (seen m).journal_places → m.written < length m.journal.now → Ends a × (a.written < length a.journal.now)
     row_free rows long l = let same = same_rows rows long in (ends_after, omega (arith, same.0, same.1))
 
-    pub places_free : v.bus ≡ (view m).bus → v.bus_places ≡ (view m).bus_places → length v.replicas ≡ length (view m).replicas → (length m.replicas.now ≤ 16) × (m.sent + length m.replicas.now ≤ length m.bus.now) → Ends a × (length a.replicas.now ≤ 16) × (a.sent + length a.replicas.now ≤ length a.bus.now)
+    pub places_free : v.bus ≡ (seen m).bus → v.bus_places ≡ (seen m).bus_places → length v.replicas ≡ length (seen m).replicas → (length m.replicas.now ≤ 16) × (m.sent + length m.replicas.now ≤ length m.bus.now) → Ends a × (length a.replicas.now ≤ 16) × (a.sent + length a.replicas.now ≤ length a.bus.now)
     places_free bus wide many places =
         let sent = bus_kept m a ends.0 becomes.1.5 (ap (λ (z : View V). z.bus) becomes.0 ∙ bus) in
         let room : length a.bus.now ≡ length m.bus.now = ap (λ (z : View V). z.bus_places) becomes.0 ∙ wide in

@@ -10,7 +10,7 @@ use Rattle.quorums.specs.Members.{bit_of_or, member_or_not, only_member, with_me
 use Rattle.line.specs.declared.types.Hand.{Hand}
 use Rattle.line.specs.declared.types.Station.{Station}
 use Rattle.line.specs.Lines.{put, station_at}
-use Rattle.line.specs.Seen.{answers_of, live}
+use Rattle.line.specs.Seen.{answers_of, live_in_line}
 use Rattle.line.proofs.Keeps.{put_here, put_other}
 use Rattle.calls.proofs.Live.{answers_changed, own_answers}
 
@@ -50,7 +50,7 @@ module _ {V : Type 0} (n : ℕ) (answers : List (Pair V)) (stations : List (Stat
   place_kept r x one_r below-x ne =
       nth_set_other answers ((s - 1) * n + c) ((r - 1) * n + x) pair (λ e. ne (own_place n s r c x one one_r below below-x e))
 
-  live_kept : (r x : ℕ) → 1 ≤ r → ((r ≡ s) × (x ≡ c) → ⊥) → (hand : Option (Hand V)) → live n told_answers r x hand ≡ live n answers r x hand
+  live_kept : (r x : ℕ) → 1 ≤ r → ((r ≡ s) × (x ≡ c) → ⊥) → (hand : Option (Hand V)) → live_in_line n told_answers r x hand ≡ live_in_line n answers r x hand
   live_kept r x one_r ne None = refl
   live_kept r x one_r ne (Some h) =
       ⊎_elim
@@ -68,18 +68,18 @@ module _ {V : Type 0} (n : ℕ) (answers : List (Pair V)) (stations : List (Stat
 
   module _ (h hand : Hand V) (held : (station_at stations s).hand ≡ Some h) (told : hand.told ≡ bit_or h.told (2 ^ c)) where
     -- the station's answers, with the one more
-    own_told : (x : ℕ) → live n told_answers s x (Some hand) ≡ put (answers_of stations n answers s) c (Some pair) x
+    own_told : (x : ℕ) → live_in_line n told_answers s x (Some hand) ≡ put (answers_of stations n answers s) c (Some pair) x
     own_told x =
         ⊎_elim
         (λ here.
-        subst (λ (k : ℕ). live n told_answers s k (Some hand) ≡ put (answers_of stations n answers s) c (Some pair) k) (sym here)
+        subst (λ (k : ℕ). live_in_line n told_answers s k (Some hand) ≡ put (answers_of stations n answers s) c (Some pair) k) (sym here)
         (cond-true (ltb c n) _ None (lt-ltb c n below)
         ∙ cond-true (eqb (hand.told / 2 ^ c % 2) 1) _ None (eq-eqb (hand.told / 2 ^ c % 2) 1 (subst (Member c) (sym told) (with_member h.told c)))
         ∙ nth_set_same answers ((s - 1) * n + c) pair wide ∙ sym (put_here (answers_of stations n answers s) c (Some pair))))
         (λ there.
         live_kept s x one (λ both. there both.1) (Some hand)
         ∙ ap (λ (b : ℕ). cond (ltb x n) (cond (eqb b 1) (slice_get answers ((s - 1) * n + x)) None) None) (ap (λ (t : ℕ). t / 2 ^ x % 2) told ∙ other_bit h.told c x there)
-        ∙ ap (live n answers s x) (sym held) ∙ sym (own_answers stations n answers s x one) ∙ sym (put_other (answers_of stations n answers s) c (Some pair) x there))
+        ∙ ap (live_in_line n answers s x) (sym held) ∙ sym (own_answers stations n answers s x one) ∙ sym (put_other (answers_of stations n answers s) c (Some pair) x there))
         (cases_eq x c)
 
     pub answers_told : (last : ℕ) (after : List (Station V)) → after ≡ set stations (s - 1) (record { last = last; hand = Some hand }) → (r x : ℕ) → answers_of after n told_answers r x ≡ put (answers_of stations n answers) s (put (answers_of stations n answers s) c (Some pair)) r x

@@ -11,7 +11,7 @@ use Rattle.line.specs.declared.types.Station.{Station}
 use Rattle.line.proofs.Keeps.{none_some, some_same}
 use Rattle.line.proofs.Order.{all_one}
 use Rattle.line.specs.Lines.{View, idle}
-use Rattle.line.specs.Seen.{answers_of, live}
+use Rattle.line.specs.Seen.{answers_of, live_in_line}
 
 -- both ways the same
 pub either : {X : Type 0} (b : Bool) (x : X) → cond b x x ≡ x
@@ -34,7 +34,7 @@ module _ {V : Type 0} where
   -- stations without a job in hand have no answers
   pub idle_answers : (m n : ℕ) (answers : List (Pair V)) (s c : ℕ) → answers_of (replicate m idle) n answers s c ≡ None
   idle_answers m n answers s c =
-      ap (λ (h : Option (Hand V)). cond (ltb 0 s) (live n answers s c h) None) (ap (λ (st : Station V). st.hand) (all_one m (s - 1) idle)) ∙ either (ltb 0 s) None
+      ap (λ (h : Option (Hand V)). cond (ltb 0 s) (live_in_line n answers s c h) None) (ap (λ (st : Station V). st.hand) (all_one m (s - 1) idle)) ∙ either (ltb 0 s) None
 
 -- what a live place holds
 pub live_place : {X : Type 0} (xs : List X) (n i : ℕ) (x : X) → i < n → n ≤ length xs → slice_get xs i ≡ Some x → slice_get (take n xs) i ≡ Some x

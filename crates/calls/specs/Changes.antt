@@ -6,7 +6,7 @@ use Rattle.telegrams.specs.declared.Telegram.{Telegram}
 use Rattle.line.specs.declared.types.Hand.{Hand}
 use Rattle.line.specs.declared.types.Memory.{Memory}
 use Rattle.line.specs.Lines.{View, put, size, with_bus}
-use Rattle.line.specs.Seen.{view}
+use Rattle.line.specs.Seen.{seen}
 use Rattle.line.specs.Memories.{Lends}
 use Rattle.line.specs.Steps.{Fits, InHand}
 
@@ -17,7 +17,7 @@ module _ {V : Type 0} where
 
   -- the memory holds the line v now, in the same slices
   abbrev pub Becomes : Memory V → View V → Memory V → Type 0
-  Becomes m v after = (view after ≡ v) × Lends m after
+  Becomes m v after = (seen after ≡ v) × Lends m after
 
   -- the job in hand that a ticket stands for, if there is one
   abbrev pub Found : View V → ℕ → ℕ → Option (Hand V) → Type 0
@@ -31,7 +31,7 @@ module _ {V : Type 0} where
   -- the telegram names a cabinet and a station of the line, whose answers have their places
   abbrev pub Placed : Memory V → Telegram V → Type 0
   Placed m t =
-      Fits (view m) t × (length m.stations.now ≤ 32) × (length m.replicas.now ≤ 16)
+      Fits (seen m) t × (length m.stations.now ≤ 32) × (length m.replicas.now ≤ 16)
       × (length m.answers.now ≡ length m.replicas.now * length m.stations.now)
 
   -- what the cabinets told the station's job, with one more telling: the telegram's

@@ -6,7 +6,7 @@ use Rattle.line.specs.declared.types.Collected.{Collected}
 use Rattle.line.specs.declared.types.Hand.{Hand}
 use Rattle.line.specs.declared.types.Memory.{Memory}
 use Rattle.line.specs.declared.types.Stage.{Stage}
-use Rattle.line.specs.Seen.{view}
+use Rattle.line.specs.Seen.{seen}
 use Rattle.line.specs.Memories.{Sound}
 use Rattle.line.specs.Steps.{InHand, Over, Unfinished}
 use Rattle.calls.specs.declared.ticket.HandedBack.{HandedBack}
@@ -30,9 +30,9 @@ Returned t (Err b) = b.ticket ≡ t
 module _ {V : Type 0} where
   -- the job in hand that a ticket stands for, on sound memory; else refusal 1 or 9
   abbrev pub JobOf : ℕ → Memory V → ℕ → ℕ → Result (Hand V) Refusal → Type 0
-  JobOf n m s job (Ok h) = Sound n m × InHand (view m) s job h
+  JobOf n m s job (Ok h) = Sound n m × InHand (seen m) s job h
   JobOf n m s job (Err e) =
-      ((Sound n m → ⊥) × (number e ≡ 1)) ⊎ (Sound n m × ((h : Hand V) → InHand (view m) s job h → ⊥) × (number e ≡ 9))
+      ((Sound n m → ⊥) × (number e ≡ 1)) ⊎ (Sound n m × ((h : Hand V) → InHand (seen m) s job h → ⊥) × (number e ≡ 9))
 
   -- the result of a job that is over
   abbrev pub ResultOf : Stage V → Option (Collected V) → Type 0

@@ -1,7 +1,7 @@
 // A choice is carried out.
 ghost use Rattle.std.specs.Prelude.{◌≡◌, ◌+◌, ◌<◌, ◌≤◌, true, length, Some};
 ghost use Rattle.line.specs.Lines.{IsStation, hand_of};
-ghost use Rattle.line.specs.Seen.{view};
+ghost use Rattle.line.specs.Seen.{seen};
 ghost use Rattle.calls.specs.Changes.{Becomes, Ends};
 ghost use Rattle.calls.specs.Choices.{answer_of, chosen_line, sends};
 
@@ -28,10 +28,10 @@ pub(crate) fn apply<V: Copy>(
     hand: Hand<V>,
     choice: Choice<V>,
 ) -> Delivered
-    requires line { Ends m.old × IsStation (view m.old) station × (m.old.written < length m.old.journal.now) }
-    requires held { hand_of (view m.old) station ≡ Some hand }
+    requires line { Ends m.old × IsStation (seen m.old) station × (m.old.written < length m.old.journal.now) }
+    requires held { hand_of (seen m.old) station ≡ Some hand }
     requires places { sends choice ≡ true → (length m.old.replicas.now ≤ 16) × (m.old.sent + length m.old.replicas.now ≤ length m.old.bus.now) }
-    ensures { (result ≡ answer_of choice) × Becomes m.old (chosen_line (view m.old) station hand choice) m.new }
+    ensures { (result ≡ answer_of choice) × Becomes m.old (chosen_line (seen m.old) station hand choice) m.new }
 {
     match choice {
         Choice::Spent => {

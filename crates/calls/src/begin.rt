@@ -1,7 +1,7 @@
 // A station begins a job.
 ghost use Rattle.std.specs.Prelude.{◌≡◌, ◌+◌, ◌<◌, ◌≤◌, length};
 ghost use Rattle.line.specs.Lines.{IsStation, begin_row};
-ghost use Rattle.line.specs.Seen.{view};
+ghost use Rattle.line.specs.Seen.{seen};
 ghost use Rattle.line.specs.Memories.{Called};
 ghost use Rattle.line.specs.Runs.{began};
 ghost use Rattle.line.specs.Steps.{begun, wants};
@@ -30,7 +30,7 @@ fn rows_wanted<V: Copy>(work: &Work<V>) -> usize
 
 // The row of a begin.
 fn begin_row<V: Copy>(m: &Memory<'_, V>, station: u8, job: u16, work: &Work<V>) -> Row<V>
-    ensures { result ≡ begin_row (view m.now) station job work.now }
+    ensures { result ≡ begin_row (seen m.now) station job work.now }
 {
     match work {
         Work::Write(value) => Row {
@@ -43,10 +43,10 @@ fn begin_row<V: Copy>(m: &Memory<'_, V>, station: u8, job: u16, work: &Work<V>) 
 
 // The new job gets its row, is taken up, and its queries go to all cabinets.
 fn start<V: Copy>(m: &mut Memory<'_, V>, station: u8, work: Work<V>) -> u16
-    requires line { Ends m.old × IsStation (view m.old) station }
+    requires line { Ends m.old × IsStation (seen m.old) station }
     requires rows { (m.old.written < length m.old.journal.now) × (length m.old.journal.now ≤ 4096) }
     requires places { (length m.old.replicas.now ≤ 16) × (m.old.sent + length m.old.replicas.now ≤ length m.old.bus.now) }
-    ensures { (result ≡ m.old.written) × Becomes m.old (begun (view m.old) station work) m.new }
+    ensures { (result ≡ m.old.written) × Becomes m.old (begun (seen m.old) station work) m.new }
 {
     let job = m.written as u16;
     let row = begin_row(m, station, job, &work);
@@ -73,7 +73,7 @@ pub fn begin<V: Copy, S: QuorumSystem>(
     station: u8,
     work: Work<V>,
 ) -> Result<Ticket, Refusal>
-    ensures { Called (size system.now) (quorum system.now) (began station work (issued result)) m.old m.new }
+    ensures { Called (S.size system.now) (S.quorum system.now) (began station work (issued result)) m.old m.new }
 {
     let free = check(system, m)?;
     if !is_station(m, station) {

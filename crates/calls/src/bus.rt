@@ -2,7 +2,7 @@
 ghost use Rattle.std.specs.Prelude.{◌≡◌, ◌+◌, ◌<◌, ◌≤◌, [], ◌∷◌, length};
 ghost use Rattle.std.specs.List.{slice_get, remove};
 ghost use Rattle.line.specs.Lines.{send, to_all, with_bus};
-ghost use Rattle.line.specs.Seen.{view};
+ghost use Rattle.line.specs.Seen.{seen};
 ghost use Rattle.calls.specs.Changes.{Becomes, Ends};
 
 use crate::places::{at, close_gap};
@@ -12,7 +12,7 @@ use telegrams::{Telegram, TelegramKind};
 // The telegram at a place of the bus.
 pub(crate) fn telegram_at<V: Copy>(m: &Memory<'_, V>, place: usize) -> Option<Telegram<V>>
     requires { Ends m.now }
-    ensures { result ≡ slice_get (view m.now).bus place }
+    ensures { result ≡ slice_get (seen m.now).bus place }
 {
     if place < m.sent {
         Some(at(m.bus, place))
@@ -24,7 +24,7 @@ pub(crate) fn telegram_at<V: Copy>(m: &Memory<'_, V>, place: usize) -> Option<Te
 // Takes the telegram at a place off the bus.
 pub(crate) fn take_off<V>(m: &mut Memory<'_, V>, place: usize)
     requires { Ends m.old × (place < m.old.sent) }
-    ensures { Becomes m.old (with_bus (view m.old) (remove (view m.old).bus place)) m.new }
+    ensures { Becomes m.old (with_bus (seen m.old) (remove (seen m.old).bus place)) m.new }
 {
     let end = m.sent;
     close_gap(m.bus, place, end);
@@ -34,7 +34,7 @@ pub(crate) fn take_off<V>(m: &mut Memory<'_, V>, place: usize)
 // A telegram joins the bus.
 pub(crate) fn join<V: Copy>(m: &mut Memory<'_, V>, telegram: Telegram<V>)
     requires { Ends m.old × (m.old.sent < length m.old.bus.now) }
-    ensures { Becomes m.old (send (view m.old) (telegram ∷ [])) m.new }
+    ensures { Becomes m.old (send (seen m.old) (telegram ∷ [])) m.new }
 {
     let end = m.sent;
     m.bus[end] = telegram;
@@ -44,7 +44,7 @@ pub(crate) fn join<V: Copy>(m: &mut Memory<'_, V>, telegram: Telegram<V>)
 // A telegram of a kind joins the bus for each cabinet in turn.
 pub(crate) fn send_all<V: Copy>(m: &mut Memory<'_, V>, station: u8, job: u16, kind: TelegramKind<V>)
     requires { Ends m.old × (length m.old.replicas.now ≤ 16) × (m.old.sent + length m.old.replicas.now ≤ length m.old.bus.now) }
-    ensures { Becomes m.old (send (view m.old) (to_all (view m.old) station job kind)) m.new }
+    ensures { Becomes m.old (send (seen m.old) (to_all (seen m.old) station job kind)) m.new }
 {
     let n = m.replicas.len() as u8;
     for cabinet in 0..n {

@@ -3,7 +3,7 @@ ghost use Rattle.std.specs.Prelude.{◌≡◌, ◌<◌, [], ◌∷◌, length};
 ghost use Rattle.std.specs.List.{remove};
 ghost use Rattle.telegrams.specs.declared.TelegramKind.TheVariants.{Told, Took};
 ghost use Rattle.line.specs.Lines.{View, replica, reply, send, store, with_bus};
-ghost use Rattle.line.specs.Seen.{view};
+ghost use Rattle.line.specs.Seen.{seen};
 ghost use Rattle.line.specs.Steps.{Stored};
 ghost use Rattle.calls.specs.Changes.{Becomes, Ends, off};
 
@@ -15,7 +15,7 @@ use telegrams::{Pair, Telegram, TelegramKind};
 // A cabinet's replica.
 fn replica_at<V: Copy>(m: &Memory<'_, V>, cabinet: u8) -> Pair<V>
     requires { cabinet < length m.now.replicas.now }
-    ensures { result ≡ replica (view m.now) cabinet }
+    ensures { result ≡ replica (seen m.now) cabinet }
 {
     at(m.replicas, usize::from(cabinet))
 }
@@ -23,7 +23,7 @@ fn replica_at<V: Copy>(m: &Memory<'_, V>, cabinet: u8) -> Pair<V>
 // The replica becomes the pair.
 fn store<V: Copy>(m: &mut Memory<'_, V>, cabinet: u8, pair: Pair<V>)
     requires { Ends m.old × (cabinet < length m.old.replicas.now) }
-    ensures { Becomes m.old (store (view m.old) cabinet pair) m.new }
+    ensures { Becomes m.old (store (seen m.old) cabinet pair) m.new }
 {
     put(m.replicas, usize::from(cabinet), pair);
 }
@@ -31,7 +31,7 @@ fn store<V: Copy>(m: &mut Memory<'_, V>, cabinet: u8, pair: Pair<V>)
 // The cabinet takes the pair if its tag is later.
 fn offer<V: Copy>(m: &mut Memory<'_, V>, cabinet: u8, pair: Pair<V>)
     requires { Ends m.old × (cabinet < length m.old.replicas.now) }
-    ensures { (w : View V) × Stored (view m.old) cabinet pair w × Becomes m.old w m.new }
+    ensures { (w : View V) × Stored (seen m.old) cabinet pair w × Becomes m.old w m.new }
 {
     if pair.tag.is_later(&replica_at(m, cabinet).tag) {
         store(m, cabinet, pair);
@@ -41,7 +41,7 @@ fn offer<V: Copy>(m: &mut Memory<'_, V>, cabinet: u8, pair: Pair<V>)
 // A query's answer joins the bus: told, with the replica.
 pub(crate) fn answer_query<V: Copy>(m: &mut Memory<'_, V>, place: usize, t: Telegram<V>)
     requires { Ends m.old × (place < m.old.sent) × (t.cabinet < length m.old.replicas.now) }
-    ensures { Becomes m.old (send (off (view m.old) place) (reply t (Told (replica (view m.old) t.cabinet)) ∷ [])) m.new }
+    ensures { Becomes m.old (send (off (seen m.old) place) (reply t (Told (replica (seen m.old) t.cabinet)) ∷ [])) m.new }
 {
     let pair = replica_at(m, t.cabinet);
     take_off(m, place);
@@ -62,7 +62,7 @@ pub(crate) fn answer_set<V: Copy>(
     pair: Pair<V>,
 )
     requires { Ends m.old × (place < m.old.sent) × (t.cabinet < length m.old.replicas.now) }
-    ensures { (w : View V) × Stored (off (view m.old) place) t.cabinet pair w × Becomes m.old (send w (reply t Took ∷ [])) m.new }
+    ensures { (w : View V) × Stored (off (seen m.old) place) t.cabinet pair w × Becomes m.old (send w (reply t Took ∷ [])) m.new }
 {
     take_off(m, place);
     offer(m, t.cabinet, pair);

@@ -5,7 +5,7 @@ ghost use Rattle.telegrams.specs.declared.Pair.{Pair};
 ghost use Rattle.quorums.specs.Sets.{Member};
 ghost use Rattle.line.specs.declared.types.Work.TheVariants.{Read};
 ghost use Rattle.line.specs.Lines.{last_of, tag_of};
-ghost use Rattle.line.specs.Seen.{view};
+ghost use Rattle.line.specs.Seen.{seen};
 ghost use Rattle.calls.specs.Changes.{Placed, told_list};
 ghost use Rattle.calls.specs.Choices.{Chooses, GreatestIn, Holds, LowestIn, LowestOr, Raises, Tells};
 
@@ -32,7 +32,7 @@ fn raise<V: Copy>(g: u32, telling: Option<Pair<V>>, q: u16, k: u8) -> u32
 // The greatest of the quorum's counts and the station's own last count.
 fn greatest<V: Copy>(m: &Memory<'_, V>, t: Telegram<V>, pair: Pair<V>, q: u16, last: u32) -> u32
     requires { Placed m.now t }
-    ensures { GreatestIn (told_list (view m.now) t pair) q last result }
+    ensures { GreatestIn (told_list (seen m.now) t pair) q last result }
 {
     let mut g = last;
     for k in 0..m.replicas.len() as u8 {
@@ -61,7 +61,7 @@ fn lowest<V: Copy>(
     tag: Tag,
 ) -> Option<Pair<V>>
     requires { Placed m.now t }
-    ensures { LowestOr (told_list (view m.now) t pair) q tag result }
+    ensures { LowestOr (told_list (seen m.now) t pair) q tag result }
 {
     for k in 0..m.replicas.len() as u8 {
         if let Some(found) = held(telling(m, t, pair, k), q, k, tag) {
@@ -84,7 +84,7 @@ fn tag_of<V: Copy>(telling: Option<Pair<V>>) -> Tag
 // The tags of tellings, one place for each cabinet.
 fn tags_of<V: Copy>(m: &Memory<'_, V>, t: Telegram<V>, pair: Pair<V>) -> [Tag; 16]
     requires { Placed m.now t }
-    ensures { take (length m.now.replicas.now) result ≡ map tag_of (told_list (view m.now) t pair) }
+    ensures { take (length m.now.replicas.now) result ≡ map tag_of (told_list (seen m.now) t pair) }
 {
     let mut tags = [Tag { count: 0, owner: 0 }; 16];
     for k in 0..m.replicas.len() as u8 {
@@ -96,8 +96,8 @@ fn tags_of<V: Copy>(m: &Memory<'_, V>, t: Telegram<V>, pair: Pair<V>) -> [Tag; 1
 // What the lowest-numbered holder of a tag told that some member told.
 fn holder<V: Copy>(m: &Memory<'_, V>, t: Telegram<V>, pair: Pair<V>, q: u16, tag: Tag) -> Pair<V>
     requires few { Placed m.now t }
-    requires some { (k : ℕ) × (p : Pair V) × Tells (told_list (view m.now) t pair) q k p × (p.tag ≡ tag) }
-    ensures { LowestIn (told_list (view m.now) t pair) q tag result }
+    requires some { (k : ℕ) × (p : Pair V) × Tells (told_list (seen m.now) t pair) q k p × (p.tag ≡ tag) }
+    ensures { LowestIn (told_list (seen m.now) t pair) q tag result }
 {
     match lowest(m, t, pair, q, tag) {
         Some(found) => found,
@@ -114,9 +114,9 @@ fn read<V: Copy, S: QuorumSystem>(
     q: u16,
 ) -> Choice<V>
     requires line { Placed m.now t }
-    requires picked { quorum system.now q }
-    requires tellings { (k : ℕ) → Member k q → (p : Pair V) × (slice_get (told_list (view m.now) t pair) k ≡ Some (Some p)) }
-    ensures { (s last : ℕ) → Chooses (told_list (view m.now) t pair) q (quorum system.now) s last Read result }
+    requires picked { S.quorum system.now q }
+    requires tellings { (k : ℕ) → Member k q → (p : Pair V) × (slice_get (told_list (seen m.now) t pair) k ≡ Some (Some p)) }
+    ensures { (s last : ℕ) → Chooses (told_list (seen m.now) t pair) q (S.quorum system.now) s last Read result }
 {
     let tags = tags_of(m, t, pair);
     let Some((verdict, strikes)) = judge(system, q, &tags[0..m.replicas.len()]) else {
@@ -138,9 +138,9 @@ pub(crate) fn choose<V: Copy, S: QuorumSystem>(
     work: Work<V>,
 ) -> Choice<V>
     requires line { Placed m.now t }
-    requires picked { quorum system.now q }
-    requires tellings { (k : ℕ) → Member k q → (p : Pair V) × (slice_get (told_list (view m.now) t pair) k ≡ Some (Some p)) }
-    ensures { Chooses (told_list (view m.now) t pair) q (quorum system.now) t.station (last_of (view m.now) t.station) work result }
+    requires picked { S.quorum system.now q }
+    requires tellings { (k : ℕ) → Member k q → (p : Pair V) × (slice_get (told_list (seen m.now) t pair) k ≡ Some (Some p)) }
+    ensures { Chooses (told_list (seen m.now) t pair) q (S.quorum system.now) t.station (last_of (seen m.now) t.station) work result }
 {
     match work {
         Work::Write(value) => {

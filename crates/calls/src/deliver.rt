@@ -2,7 +2,7 @@
 ghost use Rattle.std.specs.Prelude.{◌≡◌, ◌<◌, Some, Err, MatchBool};
 ghost use Rattle.std.specs.List.{slice_get};
 ghost use Rattle.words.specs.declared.refusal.Refusal.{Refusal};
-ghost use Rattle.line.specs.Seen.{view};
+ghost use Rattle.line.specs.Seen.{seen};
 ghost use Rattle.line.specs.Memories.{Called, Lends, Sound};
 ghost use Rattle.line.specs.Runs.{delivered};
 ghost use Rattle.line.specs.Steps.{Fits, Handed};
@@ -20,7 +20,7 @@ use words::refusal::Refusal;
 
 // Whether the telegram names a cabinet and a station of the line, and a job that there can be.
 fn fits<V: Copy>(m: &Memory<'_, V>, t: Telegram<V>) -> bool
-    ensures { MatchBool result (Fits (view m.now) t) (Fits (view m.now) t → ⊥) }
+    ensures { MatchBool result (Fits (seen m.now) t) (Fits (seen m.now) t → ⊥) }
 {
     usize::from(t.cabinet) < m.replicas.len() && is_station(m, t.station) && t.job <= 4095
 }
@@ -32,10 +32,10 @@ fn hand_over<V: Copy, S: QuorumSystem>(
     place: usize,
     t: Telegram<V>,
 ) -> Result<Delivered, Refusal>
-    requires sound { Sound (size system.now) m.old }
+    requires sound { Sound (S.size system.now) m.old }
     requires ends { Ends m.old × (place < m.old.sent) }
-    requires on { (slice_get (view m.old).bus place ≡ Some t) × Fits (view m.old) t }
-    ensures step { Handed (quorum system.now) (view m.old) (off (view m.old) place) t t.kind result (view m.new) }
+    requires on { (slice_get (seen m.old).bus place ≡ Some t) × Fits (seen m.old) t }
+    ensures step { Handed (S.quorum system.now) (seen m.old) (off (seen m.old) place) t t.kind result (seen m.new) }
     ensures lent { Lends m.old m.new }
     ensures refused { (e : Refusal) → result ≡ Err e → m.new ≡ m.old }
 {
@@ -60,7 +60,7 @@ pub fn deliver<V: Copy, S: QuorumSystem>(
     m: &mut Memory<'_, V>,
     place: usize,
 ) -> Result<Delivered, Refusal>
-    ensures { Called (size system.now) (quorum system.now) (delivered place result) m.old m.new }
+    ensures { Called (S.size system.now) (S.quorum system.now) (delivered place result) m.old m.new }
 {
     check(system, m)?;
     let Some(t) = telegram_at(m, place) else {

@@ -1,7 +1,7 @@
 // What a ticket is good for: collect, give up and shelve use it up, claim gives it back.
 ghost use Rattle.std.specs.Prelude.{◌<◌, length};
 ghost use Rattle.line.specs.Lines.{IsStation, given_row, note};
-ghost use Rattle.line.specs.Seen.{view};
+ghost use Rattle.line.specs.Seen.{seen};
 ghost use Rattle.line.specs.Memories.{Called};
 ghost use Rattle.line.specs.Runs.{claimed, collected, gave_up, shelved};
 ghost use Rattle.line.specs.Steps.{freed};
@@ -23,7 +23,7 @@ fn job_of<V: Copy, S: QuorumSystem>(
     station: u8,
     job: u16,
 ) -> Result<Hand<V>, Refusal>
-    ensures { JobOf (size system.now) m.now station job result }
+    ensures { JobOf (S.size system.now) m.now station job result }
 {
     check(system, m)?;
     match in_hand(m, station, job) {
@@ -50,7 +50,7 @@ pub fn shelve<V: Copy, S: QuorumSystem>(
     m: &mut Memory<'_, V>,
     ticket: Ticket,
 ) -> Result<(), HandedBack>
-    ensures called { Called (size system.now) (quorum system.now) (shelved ticket.station ticket.job (plain result)) m.old m.new }
+    ensures called { Called (S.size system.now) (S.quorum system.now) (shelved ticket.station ticket.job (plain result)) m.old m.new }
     ensures returned { Returned ticket result }
 {
     let hand = match job_of(system, m, ticket.station, ticket.job) {
@@ -75,7 +75,7 @@ pub fn claim<V: Copy, S: QuorumSystem>(
     m: &mut Memory<'_, V>,
     station: u8,
 ) -> Result<Ticket, Refusal>
-    ensures { Called (size system.now) (quorum system.now) (claimed station (issued result)) m.old m.new }
+    ensures { Called (S.size system.now) (S.quorum system.now) (claimed station (issued result)) m.old m.new }
 {
     check(system, m)?;
     if !is_station(m, station) {
@@ -106,7 +106,7 @@ pub fn collect<V: Copy, S: QuorumSystem>(
     m: &mut Memory<'_, V>,
     ticket: Ticket,
 ) -> Result<Collected<V>, HandedBack>
-    ensures called { Called (size system.now) (quorum system.now) (collected ticket.station ticket.job (plain result)) m.old m.new }
+    ensures called { Called (S.size system.now) (S.quorum system.now) (collected ticket.station ticket.job (plain result)) m.old m.new }
     ensures returned { Returned ticket result }
 {
     let hand = match job_of(system, m, ticket.station, ticket.job) {
@@ -126,8 +126,8 @@ pub fn collect<V: Copy, S: QuorumSystem>(
 
 // An unfinished job gets its row, and its station is free.
 fn abandon<V: Copy>(m: &mut Memory<'_, V>, station: u8, job: u16)
-    requires { Ends m.old × IsStation (view m.old) station × (m.old.written < length m.old.journal.now) }
-    ensures { Becomes m.old (freed (note (view m.old) (given_row (view m.old) station job)) station) m.new }
+    requires { Ends m.old × IsStation (seen m.old) station × (m.old.written < length m.old.journal.now) }
+    ensures { Becomes m.old (freed (note (seen m.old) (given_row (seen m.old) station job)) station) m.new }
 {
     let row = blank_row(m, RowKind::Given, station, job);
     note(m, row);
@@ -140,7 +140,7 @@ pub fn give_up<V: Copy, S: QuorumSystem>(
     m: &mut Memory<'_, V>,
     ticket: Ticket,
 ) -> Result<(), Refusal>
-    ensures { Called (size system.now) (quorum system.now) (gave_up ticket.station ticket.job result) m.old m.new }
+    ensures { Called (S.size system.now) (S.quorum system.now) (gave_up ticket.station ticket.job result) m.old m.new }
 {
     let Ticket { station, job } = ticket;
     let hand = job_of(system, m, station, job)?;

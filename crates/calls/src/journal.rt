@@ -1,7 +1,7 @@
 // The journal: rows join its end.
 ghost use Rattle.std.specs.Prelude.{◌≡◌, ◌<◌, length};
 ghost use Rattle.line.specs.Lines.{first_tag, note};
-ghost use Rattle.line.specs.Seen.{view};
+ghost use Rattle.line.specs.Seen.{seen};
 ghost use Rattle.calls.specs.Changes.{Becomes, Ends};
 
 use line::types::{Memory, Row, RowKind};
@@ -10,7 +10,7 @@ use words::tag::Tag;
 // A row joins the journal.
 pub(crate) fn note<V: Copy>(m: &mut Memory<'_, V>, row: Row<V>)
     requires { Ends m.old × (m.old.written < length m.old.journal.now) }
-    ensures { Becomes m.old (note (view m.old) row) m.new }
+    ensures { Becomes m.old (note (seen m.old) row) m.new }
 {
     let end = m.written;
     m.journal[end] = row;
@@ -19,10 +19,10 @@ pub(crate) fn note<V: Copy>(m: &mut Memory<'_, V>, row: Row<V>)
 
 // A row of a kind with nothing but its station and job: the other fields hold the first tag, 0 and the first value.
 pub(crate) fn blank_row<V: Copy>(m: &Memory<'_, V>, kind: RowKind, station: u8, job: u16) -> Row<V>
-    ensures { result ≡ record { kind = kind; station = station; job = job; tag = first_tag (view m.now); trips = 0; strikes = 0; value = m.now.first_value } }
+    ensures { result ≡ record { kind = kind; station = station; job = job; tag = first_tag (seen m.now); trips = 0; strikes = 0; value = m.now.first.value } }
 {
     let tag = Tag {
-        count: m.first_count,
+        count: m.first.count,
         owner: 0,
     };
     Row {
@@ -32,6 +32,6 @@ pub(crate) fn blank_row<V: Copy>(m: &Memory<'_, V>, kind: RowKind, station: u8, 
         tag,
         trips: 0,
         strikes: 0,
-        value: m.first_value,
+        value: m.first.value,
     }
 }

@@ -16,8 +16,8 @@ pub fn open<V: Copy, S: QuorumSystem>(
     first: First<V>,
     m: &mut Memory<'_, V>,
 ) -> Result<(), Refusal>
-    ensures opens { Opens (size system.now) first m.old result m.new }
-    ensures order { result ≡ Ok tt → OrderAfter (size system.now) (quorum system.now) first m.new }
+    ensures opens { Opens (S.size system.now) first m.old result m.new }
+    ensures order { result ≡ Ok tt → OrderAfter (S.size system.now) (S.quorum system.now) first m.new }
 {
     if !suits(system.cabinets(), first.count, m) {
         return Err(Refusal::BadPlan);
@@ -40,8 +40,7 @@ pub fn open<V: Copy, S: QuorumSystem>(
             hand: None,
         },
     );
-    m.first_count = first.count;
-    m.first_value = first.value;
+    m.first = first;
     m.sent = 0;
     m.written = 0;
     Ok(())

@@ -4,7 +4,7 @@ ghost use Rattle.telegrams.specs.declared.TelegramKind.TheVariants.{Set};
 ghost use Rattle.line.specs.declared.types.Hand.{Hand};
 ghost use Rattle.line.specs.declared.types.Stage.TheVariants.{Ended, Setting, Spent};
 ghost use Rattle.line.specs.Lines.{IsStation, at_stage, change, ended_row, hand_of, hold, last_of, note, put, send, spent_row, tagged_row, to_all};
-ghost use Rattle.line.specs.Seen.{view};
+ghost use Rattle.line.specs.Seen.{seen};
 ghost use Rattle.calls.specs.Changes.{Becomes, Ends, off};
 
 use crate::bus::{send_all, take_off};
@@ -22,9 +22,9 @@ pub(crate) fn finish<V: Copy>(
     trips: u8,
     strikes: u8,
 )
-    requires line { Ends m.old × IsStation (view m.old) station × (m.old.written < length m.old.journal.now) }
-    requires same { (h : Hand V) × (hand_of (view m.old) station ≡ Some h) × (h.told ≡ hand.told) }
-    ensures { Becomes m.old (note (hold (view m.old) station (at_stage hand (Ended pair trips strikes))) (ended_row station hand.job pair trips strikes)) m.new }
+    requires line { Ends m.old × IsStation (seen m.old) station × (m.old.written < length m.old.journal.now) }
+    requires same { (h : Hand V) × (hand_of (seen m.old) station ≡ Some h) × (h.told ≡ hand.told) }
+    ensures { Becomes m.old (note (hold (seen m.old) station (at_stage hand (Ended pair trips strikes))) (ended_row station hand.job pair trips strikes)) m.new }
 {
     hold(
         m,
@@ -54,9 +54,9 @@ pub(crate) fn finish<V: Copy>(
 
 // The counts have run out for a write.
 pub(crate) fn spend<V: Copy>(m: &mut Memory<'_, V>, station: u8, hand: Hand<V>)
-    requires line { Ends m.old × IsStation (view m.old) station × (m.old.written < length m.old.journal.now) }
-    requires same { (h : Hand V) × (hand_of (view m.old) station ≡ Some h) × (h.told ≡ hand.told) }
-    ensures { Becomes m.old (note (hold (view m.old) station (at_stage hand Spent)) (spent_row (view m.old) station hand.job)) m.new }
+    requires line { Ends m.old × IsStation (seen m.old) station × (m.old.written < length m.old.journal.now) }
+    requires same { (h : Hand V) × (hand_of (seen m.old) station ≡ Some h) × (h.told ≡ hand.told) }
+    ensures { Becomes m.old (note (hold (seen m.old) station (at_stage hand Spent)) (spent_row (seen m.old) station hand.job)) m.new }
 {
     let row = Row {
         trips: 1,
@@ -75,9 +75,9 @@ pub(crate) fn spend<V: Copy>(m: &mut Memory<'_, V>, station: u8, hand: Hand<V>)
 
 // A write has its tag.
 pub(crate) fn tag<V: Copy>(m: &mut Memory<'_, V>, station: u8, hand: Hand<V>, pair: Pair<V>)
-    requires line { Ends m.old × IsStation (view m.old) station × (m.old.written < length m.old.journal.now) }
-    requires held { hand_of (view m.old) station ≡ Some hand }
-    ensures { Becomes m.old (note (change (view m.old) station pair.tag.count (Some hand) ((view m.old).answers station)) (tagged_row station hand.job pair)) m.new }
+    requires line { Ends m.old × IsStation (seen m.old) station × (m.old.written < length m.old.journal.now) }
+    requires held { hand_of (seen m.old) station ≡ Some hand }
+    ensures { Becomes m.old (note (change (seen m.old) station pair.tag.count (Some hand) ((seen m.old).answers station)) (tagged_row station hand.job pair)) m.new }
 {
     raise_last(m, station, pair.tag.count);
     note(
@@ -102,10 +102,10 @@ pub(crate) fn second<V: Copy>(
     pair: Pair<V>,
     strikes: u8,
 )
-    requires line { Ends m.old × IsStation (view m.old) station }
+    requires line { Ends m.old × IsStation (seen m.old) station }
     requires places { (length m.old.replicas.now ≤ 16) × (m.old.sent + length m.old.replicas.now ≤ length m.old.bus.now) }
-    requires same { (h : Hand V) × (hand_of (view m.old) station ≡ Some h) × (h.told ≡ hand.told) }
-    ensures { Becomes m.old (send (hold (view m.old) station (at_stage hand (Setting pair strikes 0))) (to_all (view m.old) station hand.job (Set pair))) m.new }
+    requires same { (h : Hand V) × (hand_of (seen m.old) station ≡ Some h) × (h.told ≡ hand.told) }
+    ensures { Becomes m.old (send (hold (seen m.old) station (at_stage hand (Setting pair strikes 0))) (to_all (seen m.old) station hand.job (Set pair))) m.new }
 {
     hold(
         m,
@@ -131,10 +131,10 @@ pub(crate) fn receive<V: Copy>(
     hand: Hand<V>,
     pair: Pair<V>,
 )
-    requires line { Ends m.old × IsStation (view m.old) station × (length m.old.stations.now ≤ 32) × (place < m.old.sent) }
+    requires line { Ends m.old × IsStation (seen m.old) station × (length m.old.stations.now ≤ 32) × (place < m.old.sent) }
     requires wide { (cabinet < length m.old.replicas.now) × (length m.old.replicas.now ≤ 16) × (length m.old.answers.now ≡ length m.old.replicas.now * length m.old.stations.now) }
-    requires told { (h : Hand V) × (hand_of (view m.old) station ≡ Some h) × (hand.told ≡ bit_or h.told (2 ^ cabinet)) }
-    ensures { Becomes m.old (change (off (view m.old) place) station (last_of (view m.old) station) (Some hand) (put ((view m.old).answers station) cabinet (Some pair))) m.new }
+    requires told { (h : Hand V) × (hand_of (seen m.old) station ≡ Some h) × (hand.told ≡ bit_or h.told (2 ^ cabinet)) }
+    ensures { Becomes m.old (change (off (seen m.old) place) station (last_of (seen m.old) station) (Some hand) (put ((seen m.old).answers station) cabinet (Some pair))) m.new }
 {
     take_off(m, place);
     tell(m, station, cabinet, hand, pair);

@@ -5,7 +5,7 @@ ghost use Rattle.words.specs.declared.refusal.Refusal.{Refusal};
 ghost use Rattle.line.specs.declared.types.Hand.{Hand};
 ghost use Rattle.line.specs.declared.types.Stage.TheVariants.{Querying, Setting};
 ghost use Rattle.line.specs.Lines.{hand_of};
-ghost use Rattle.line.specs.Seen.{view};
+ghost use Rattle.line.specs.Seen.{seen};
 ghost use Rattle.line.specs.Memories.{Lends, Sound};
 ghost use Rattle.line.specs.Steps.{AtHand, Fits};
 ghost use Rattle.calls.specs.Changes.{Ends, off};
@@ -71,10 +71,10 @@ fn on_told<V: Copy, S: QuorumSystem>(
     hand: Hand<V>,
     pair: Pair<V>,
 ) -> Result<Delivered, Refusal>
-    requires sound { Sound (size system.now) m.old }
-    requires on { (slice_get (view m.old).bus place ≡ Some t) × Fits (view m.old) t }
-    requires told { (h : Hand V) × (hand_of (view m.old) t.station ≡ Some h) × (h.stage ≡ Querying) × (hand ≡ told_by h t.cabinet) }
-    ensures step { TellsNow (quorum system.now) (view m.old) (off (view m.old) place) t hand pair result (view m.new) }
+    requires sound { Sound (S.size system.now) m.old }
+    requires on { (slice_get (seen m.old).bus place ≡ Some t) × Fits (seen m.old) t }
+    requires told { (h : Hand V) × (hand_of (seen m.old) t.station ≡ Some h) × (h.stage ≡ Querying) × (hand ≡ told_by h t.cabinet) }
+    ensures step { TellsNow (S.quorum system.now) (seen m.old) (off (seen m.old) place) t hand pair result (seen m.new) }
     ensures lent { Lends m.old m.new }
     ensures refused { (e : Refusal) → result ≡ Err e → m.new ≡ m.old }
 {
@@ -101,11 +101,11 @@ fn on_took<V: Copy, S: QuorumSystem>(
     strikes: u8,
     took: u16,
 ) -> Delivered
-    requires sound { Sound (size system.now) m.old }
+    requires sound { Sound (S.size system.now) m.old }
     requires ends { Ends m.old × (place < m.old.sent) }
-    requires on { (slice_get (view m.old).bus place ≡ Some t) × Fits (view m.old) t }
-    requires setting { (h : Hand V) × (before : ℕ) × (hand_of (view m.old) t.station ≡ Some h) × (h.stage ≡ Setting pair strikes before) × (h.told ≡ hand.told) }
-    ensures step { TakesNow (quorum system.now) (off (view m.old) place) t.station hand pair strikes took result (view m.new) }
+    requires on { (slice_get (seen m.old).bus place ≡ Some t) × Fits (seen m.old) t }
+    requires setting { (h : Hand V) × (before : ℕ) × (hand_of (seen m.old) t.station ≡ Some h) × (h.stage ≡ Setting pair strikes before) × (h.told ≡ hand.told) }
+    ensures step { TakesNow (S.quorum system.now) (off (seen m.old) place) t.station hand pair strikes took result (seen m.new) }
     ensures lent { Lends m.old m.new }
 {
     take_off(m, place);
@@ -128,10 +128,10 @@ pub(crate) fn at_station<V: Copy, S: QuorumSystem>(
     place: usize,
     t: Telegram<V>,
 ) -> Result<Delivered, Refusal>
-    requires sound { Sound (size system.now) m.old }
+    requires sound { Sound (S.size system.now) m.old }
     requires ends { Ends m.old × (place < m.old.sent) }
-    requires on { (slice_get (view m.old).bus place ≡ Some t) × Fits (view m.old) t }
-    ensures step { AtHand (quorum system.now) (view m.old) (off (view m.old) place) t (hand_of (view m.old) t.station) result (view m.new) }
+    requires on { (slice_get (seen m.old).bus place ≡ Some t) × Fits (seen m.old) t }
+    ensures step { AtHand (S.quorum system.now) (seen m.old) (off (seen m.old) place) t (hand_of (seen m.old) t.station) result (seen m.new) }
     ensures lent { Lends m.old m.new }
     ensures refused { (e : Refusal) → result ≡ Err e → m.new ≡ m.old }
 {

@@ -2,7 +2,7 @@
 ghost use Rattle.std.specs.Prelude.{◌≡◌, ◌*◌, ◌<◌, ◌≤◌, length, Some};
 ghost use Rattle.std.specs.List.{slice_get};
 ghost use Rattle.line.specs.Lines.{IsStation};
-ghost use Rattle.line.specs.Seen.{view};
+ghost use Rattle.line.specs.Seen.{seen};
 ghost use Rattle.calls.specs.Changes.{Placed, told_list};
 
 use crate::hands::hand_at;
@@ -13,9 +13,9 @@ use telegrams::{Pair, Telegram};
 
 // What a cabinet told the station's job in hand.
 fn answer_at<V: Copy>(m: &Memory<'_, V>, station: u8, cabinet: u8) -> Option<Pair<V>>
-    requires line { IsStation (view m.now) station × (length m.now.stations.now ≤ 32) }
+    requires line { IsStation (seen m.now) station × (length m.now.stations.now ≤ 32) }
     requires wide { (cabinet < length m.now.replicas.now) × (length m.now.replicas.now ≤ 16) × (length m.now.answers.now ≡ length m.now.replicas.now * length m.now.stations.now) }
-    ensures { result ≡ (view m.now).answers station cabinet }
+    ensures { result ≡ (seen m.now).answers station cabinet }
 {
     let hand = hand_at(m, station)?;
     if has(hand.told, cabinet) {
@@ -34,7 +34,7 @@ pub(crate) fn telling<V: Copy>(
     k: u8,
 ) -> Option<Pair<V>>
     requires { Placed m.now t × (k < length m.now.replicas.now) }
-    ensures { slice_get (told_list (view m.now) t pair) k ≡ Some result }
+    ensures { slice_get (told_list (seen m.now) t pair) k ≡ Some result }
 {
     if k == t.cabinet {
         Some(pair)

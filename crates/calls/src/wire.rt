@@ -14,7 +14,7 @@ pub fn lose<V: Copy, S: QuorumSystem>(
     m: &mut Memory<'_, V>,
     place: usize,
 ) -> Result<(), Refusal>
-    ensures { Called (size system.now) (quorum system.now) (lost place result) m.old m.new }
+    ensures { Called (S.size system.now) (S.quorum system.now) (lost place result) m.old m.new }
 {
     check(system, m)?;
     if place >= m.sent {
@@ -30,7 +30,7 @@ pub fn double<V: Copy, S: QuorumSystem>(
     m: &mut Memory<'_, V>,
     place: usize,
 ) -> Result<(), Refusal>
-    ensures { Called (size system.now) (quorum system.now) (doubled place result) m.old m.new }
+    ensures { Called (S.size system.now) (S.quorum system.now) (doubled place result) m.old m.new }
 {
     check(system, m)?;
     let Some(telegram) = telegram_at(m, place) else {

@@ -6,7 +6,7 @@ use Rattle.line.specs.declared.types.First.{First}
 use Rattle.line.specs.declared.types.Memory.{Memory}
 use Rattle.line.specs.declared.types.Station.{Station}
 use Rattle.line.specs.Lines.{View, idle, owed}
-use Rattle.line.specs.Seen.{view}
+use Rattle.line.specs.Seen.{seen}
 use Rattle.line.specs.Memories.{Opens, OrderAfter, Sound}
 use Rattle.line.specs.Runs.{Laws, Run}
 use Rattle.line.proofs.Order.{order_of_jobs, trips_carry}
@@ -29,7 +29,7 @@ module _ {V : Type 0} where
         let many : length after.stations.now ≡ k = ap (λ (xs : List (Station V)). length xs) stations ∙ length-replicate k idle in
         let bus : length after.bus.now ≡ length m.bus.now = ap (λ (v : View V). v.bus_places) is in
         let journal : length after.journal.now ≡ length m.journal.now = ap (λ (v : View V). v.journal_places) is in
-        let empty : length (view after).journal ≡ 0 = ap (λ (v : View V). length v.journal) is in
+        let empty : length (seen after).journal ≡ 0 = ap (λ (v : View V). length v.journal) is in
         let none_owed = ap owed stations ∙ owed_idle V k in (
           (
             subst (λ (f : First V). f.count ≤ 2 ^ 28 - 1) (sym (ap (λ (v : View V). v.first) is)) count,
@@ -52,7 +52,7 @@ module _ {V : Type 0} where
         (λ good.
         let r = runs n F after end ms (opened_sound opens) calls in
         let k = length m.stations.now in
-        let run = subst (λ (v : View V). Run F v ms (view end)) good.3 r.0 in
-        let o = order_of_jobs F n laws first k (length m.bus.now) (length m.journal.now) ms (view end) run in
-        (o.0, trips_carry F n laws first k (length m.bus.now) (length m.journal.now) ms (view end) run, o.1, r.1))
+        let run = subst (λ (v : View V). Run F v ms (seen end)) good.3 r.0 in
+        let o = order_of_jobs F n laws first k (length m.bus.now) (length m.journal.now) ms (seen end) run in
+        (o.0, trips_carry F n laws first k (length m.bus.now) (length m.journal.now) ms (seen end) run, o.1, r.1))
         opens

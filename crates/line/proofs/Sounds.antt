@@ -13,7 +13,7 @@ use Rattle.line.specs.declared.types.Station.{Station}
 use Rattle.line.specs.declared.types.Work.{Work}
 use Rattle.line.specs.declared.types.Work.TheVariants.{Write, Read}
 use Rattle.line.specs.Lines.{View, hand_of, idle, owed, owed_by, owed_in}
-use Rattle.line.specs.Seen.{view}
+use Rattle.line.specs.Seen.{seen}
 use Rattle.line.specs.Memories.{Calls, Lends, Sound, more, none}
 use Rattle.line.specs.Runs.{Event, Moment, Run, Step}
 use Rattle.line.specs.Runs as run
@@ -108,14 +108,14 @@ module _ {V : Type 0} where
     )
 
   -- a step on sound memory leaves sound memory
-  pub stays_sound : (n : ℕ) (F : ℕ → Type 0) (e : Event V) (m after : Memory V) → Sound n m → Step F (view m) e (view after) → Lends m after → Sound n after
+  pub stays_sound : (n : ℕ) (F : ℕ → Type 0) (e : Event V) (m after : Memory V) → Sound n m → Step F (seen m) e (seen after) → Lends m after → Sound n after
   stays_sound n F e m after ((count, replicas, one, few, answers, bus-low, bus-high, rows-low, rows-high), sent, rows) step lends =
-      let outcome = step_outcome (view m) F e (view after) step in
-      let shape = shape_rows (view m) e (view after) outcome.shape in
+      let outcome = step_outcome (seen m) F e (seen after) step in
+      let shape = shape_rows (seen m) e (seen after) outcome.shape in
       let frame = outcome.frame in
       let stations : length after.stations.now ≡ length m.stations.now = shape.0 in
-      let before : length (view m).journal ≡ m.written = length-take-le m.written m.journal.now (omega arith) in
-      let then : length (view after).journal ≡ after.written = length-take-le after.written after.journal.now lends.7 in
+      let before : length (seen m).journal ≡ m.written = length-take-le m.written m.journal.now (omega arith) in
+      let then : length (seen after).journal ≡ after.written = length-take-le after.written after.journal.now lends.7 in
       let bus : length after.bus.now ≡ length m.bus.now = frame.bus_places in
       let journal : length after.journal.now ≡ length m.journal.now = frame.journal_places in
       let wide : length after.answers.now ≡ n * length after.stations.now = lends.3 ∙ answers ∙ ap (λ (k : ℕ). n * k) (sym stations) in (
@@ -135,7 +135,7 @@ module _ {V : Type 0} where
       )
 
   -- calls on sound memory are a run, and leave sound memory
-  pub runs : (n : ℕ) (F : ℕ → Type 0) (start m : Memory V) (ms : List (Moment V)) → Sound n start → Calls n F start ms m → Run F (view start) ms (view m) × Sound n m
+  pub runs : (n : ℕ) (F : ℕ → Type 0) (start m : Memory V) (ms : List (Moment V)) → Sound n start → Calls n F start ms m → Run F (seen start) ms (seen m) × Sound n m
   runs n F start m ms sound none = (run.none, sound)
   runs n F start m ms sound (more {m = before} {e = e} calls call) =
       let r = runs n F start before _ sound calls in

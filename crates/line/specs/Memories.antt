@@ -5,7 +5,7 @@ use Rattle.words.specs.Refusals.{number}
 use Rattle.line.specs.declared.types.First.{First}
 use Rattle.line.specs.declared.types.Memory.{Memory}
 use Rattle.line.specs.Lines.{owed}
-use Rattle.line.specs.Seen.{view}
+use Rattle.line.specs.Seen.{seen}
 use Rattle.line.specs.Runs.{Carried, Event, Moment, Ordered, Shown, Step, began, claimed, collected, delivered, doubled, gave_up, lost, opened, shelved}
 
 -- the refusal of a call, if it was refused
@@ -59,21 +59,21 @@ module _ {V : Type 0} where
   Opens n first m r after =
       ((Suits n first.count m → ⊥) × ((e : Refusal) × (r ≡ Err e) × (number e ≡ 1)) × (after ≡ m))
       ⊎ (Suits n first.count m × (r ≡ Ok tt) × Lends m after
-      × (view after ≡ opened first n (length m.stations.now) (length m.bus.now) (length m.journal.now)))
+      × (seen after ≡ opened first n (length m.stations.now) (length m.bus.now) (length m.journal.now)))
 
   -- A call. It judges the memory; if that is sound it is a step; refused, it leaves all memory as found.
   abbrev pub Called : ℕ → (ℕ → Type 0) → Event V → Memory V → Memory V → Type 0
   Called n F e m after =
       ((Sound n m → ⊥) × ((x : Refusal) × (refusal e ≡ Some x) × (number x ≡ 1)) × (after ≡ m))
-      ⊎ (Sound n m × Step F (view m) e (view after) × Lends m after × ((x : Refusal) → refusal e ≡ Some x → after ≡ m))
+      ⊎ (Sound n m × Step F (seen m) e (seen after) × Lends m after × ((x : Refusal) → refusal e ≡ Some x → after ≡ m))
 
   -- calls one after the other on the same memory, the newest first
   pub data Calls (n : ℕ) (F : ℕ → Type 0) (start : Memory V) : List (Moment V) → Memory V → Type 0 where
     none : Calls n F start [] start
     more : {ms : List (Moment V)} {m after : Memory V} {e : Event V} → Calls n F start ms m → Called n F e m after
-        → Calls n F start (record { before = view m; event = e; after = view after } ∷ ms) after
+        → Calls n F start (record { before = seen m; event = e; after = seen after } ∷ ms) after
 
   -- The order of jobs, whatever calls follow on the memory that an opening left; and that memory stays sound.
   abbrev pub OrderAfter : ℕ → (ℕ → Type 0) → First V → Memory V → Type 0
   OrderAfter n F first start =
-      (ms : List (Moment V)) (m : Memory V) → Calls n F start ms m → Ordered ms first.value × Carried ms × Shown ms (view m) × Sound n m
+      (ms : List (Moment V)) (m : Memory V) → Calls n F start ms m → Ordered ms first.value × Carried ms × Shown ms (seen m) × Sound n m

@@ -9,15 +9,15 @@ use Rattle.line.specs.Lines.{View, station_at}
 
 module _ {V : Type 0} where
   -- an answer is live if the cabinet, one of n, has told the station's present job
-  abbrev pub live : ℕ → List (Pair V) → ℕ → ℕ → Option (Hand V) → Option (Pair V)
-  live n answers s c None = None
-  live n answers s c (Some h) = cond (nat_lt c n) (cond (h.told / 2 ^ c % 2 == 1) (slice_get answers ((s - 1) * n + c)) None) None
+  abbrev pub live_in_line : ℕ → List (Pair V) → ℕ → ℕ → Option (Hand V) → Option (Pair V)
+  live_in_line n answers s c None = None
+  live_in_line n answers s c (Some h) = cond (nat_lt c n) (cond (h.told / 2 ^ c % 2 == 1) (slice_get answers ((s - 1) * n + c)) None) None
 
   abbrev pub answers_of : List (Station V) → ℕ → List (Pair V) → ℕ → ℕ → Option (Pair V)
-  answers_of stations n answers s c = cond (nat_lt 0 s) (live n answers s c (station_at stations s).hand) None
+  answers_of stations n answers s c = cond (nat_lt 0 s) (live_in_line n answers s c (station_at stations s).hand) None
 
-  abbrev pub view : Memory V → View V
-  view m = record {
+  abbrev pub seen : Memory V → View V
+  seen m = record {
     first = m.first;
     replicas = m.replicas.now;
     stations = m.stations.now;

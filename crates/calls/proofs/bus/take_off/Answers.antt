@@ -4,6 +4,6 @@ use Rattle.calls.proofs.bus.take_off.Goals as goal
 
 pub returns : goal.returns
 returns g c = (
-  same_view _ _ refl refl refl (λ s x. refl) c.close-gap.ensures refl c.close-gap.auto.places refl,
-  (refl, refl, refl, refl, refl, omega (arith, c.requires.0.0, c.close-gap.auto.places), refl, c.requires.0.1),
+  same_view _ _ refl refl refl (λ s x. refl) c.close_gap.ensures refl c.close_gap.auto.places refl,
+  (refl, refl, refl, refl, refl, omega (arith, c.requires.0.0, c.close_gap.auto.places), refl, c.requires.0.1),
 )

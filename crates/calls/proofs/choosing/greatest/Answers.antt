@@ -1,13 +1,13 @@
 use Rattle.std.proofs.Common.{Some, sym, ap, ◌∙◌, inl, inr, ⊎_elim, arith}
 use Rattle.std.proofs.lemmas.Bool.{cases_eq}
 use Rattle.calls.proofs.Tellers.{told_below, told_here, told_length}
-use Rattle.line.specs.Seen.{view}
+use Rattle.line.specs.Seen.{seen}
 use Rattle.calls.specs.Changes.{told_list}
 use Rattle.calls.proofs.choosing.greatest.Goals as goal
 
 pub loop-k-preserved : goal.loop-k-preserved
 loop-k-preserved g c =
-    let told = (told_list (view c.args.m.now) c.args.t c.args.pair) in
+    let told = (told_list (seen c.args.m.now) c.args.t c.args.pair) in
     let q = c.args.q in
     let i = c.loop-k.k in
     let inv = c.loop-k.invariant in
@@ -24,4 +24,4 @@ loop-k-preserved g c =
 pub returns : goal.returns
 returns g c =
     let inv = c.loop-k.invariant in
-    (inv.0, (λ k p tells. inv.1 k p (omega (arith, c.loop-k-test.false, told_length (view c.args.m.now) c.args.t c.args.pair, told_below ((told_list (view c.args.m.now) c.args.t c.args.pair)) c.args.q k p tells)) tells), inv.2)
+    (inv.0, (λ k p tells. inv.1 k p (omega (arith, c.loop-k-test.false, told_length (seen c.args.m.now) c.args.t c.args.pair, told_below ((told_list (seen c.args.m.now) c.args.t c.args.pair)) c.args.q k p tells)) tells), inv.2)

@@ -1,26 +1,26 @@
 use Rattle.std.proofs.Common.{Err, sym, refl, ◌∙◌, inl}
 use Rattle.words.specs.declared.refusal.Refusal.TheVariants.{NoTelegram}
-use Rattle.line.specs.Seen.{view}
+use Rattle.line.specs.Seen.{seen}
 use Rattle.line.specs.Runs.{delivered}
 use Rattle.calls.proofs.Hearing.{place_below}
 use Rattle.calls.proofs.Outcomes.{refused, sound_ends}
 use Rattle.calls.proofs.Views.{none_past}
 use Rattle.calls.proofs.deliver.deliver.Goals as goal
 
-pub returns-in-default : goal.returns-in-default
-returns-in-default g c =
+pub returns-in_default : goal.returns-in_default
+returns-in_default g c =
     let m = c.args.m.now in
     let system = c.args.system.now in
-    refused (g.S.QuorumSystem.size system) (g.S.QuorumSystem.quorum system) (delivered c.args.place (Err NoTelegram)) m c.in-ok-check.ensures.sound.0
-    (inl (none_past (view m).bus c.args.place (sym c.telegram-at.ensures ∙ c.in-default.is), (NoTelegram, refl, refl, refl)))
+    refused (g.S.QuorumSystem.size system) (g.S.QuorumSystem.quorum system) (delivered c.args.place (Err NoTelegram)) m c.in_ok-check.ensures.sound.0
+    (inl (none_past (seen m).bus c.args.place (sym c.telegram_at.ensures ∙ c.in_default.is), (NoTelegram, refl, refl, refl)))
 
-pub hand-over-requires : goal.hand-over-requires
-hand-over-requires g c =
+pub hand_over-requires : goal.hand_over-requires
+hand_over-requires g c =
     let m = c.args.m.now in
     let system = c.args.system.now in
-    let sound = c.in-ok-check.ensures.sound.0 in
+    let sound = c.in_ok-check.ensures.sound.0 in
     let t = c.in-Some.t in
-    let on = sym c.telegram-at.ensures ∙ c.in-Some.is in
+    let on = sym c.telegram_at.ensures ∙ c.in-Some.is in
     let fit = c.if-not-fits.ensures in
     record {
       sound = sound;

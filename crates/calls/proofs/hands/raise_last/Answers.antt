@@ -15,7 +15,7 @@ returns g c =
     let answers = m.answers.now in
     let line = c.requires.1 in
     let st : Station g.row.V.Denot = record { last = c.args.last; hand = (station_at xs s).hand } in
-    let is = c.set-last.ensures ∙ ap (λ (k : ℕ). set xs (k - 1) (record { last = c.args.last; hand = (get_or xs (k - 1) idle).hand })) c.from.ensures in (
+    let is = c.set_last.ensures ∙ ap (λ (k : ℕ). set xs (k - 1) (record { last = c.args.last; hand = (get_or xs (k - 1) idle).hand })) c.from.ensures in (
       same_view _ _ refl refl is (answers_changed n answers xs s line.0 line.1 st (answers_of xs n answers s) (λ x. sym (own_answers xs n answers s x line.0)) _ is) refl refl refl refl,
       (refl, refl, refl, refl, refl, c.requires.0.0, refl, c.requires.0.1),
     )

@@ -11,7 +11,7 @@ returns g c =
     let xs = m.stations.now in
     let s = c.args.station in
     let st : Station g.row.V.Denot = record { last = (station_at xs s).last; hand = Some c.args.hand } in
-    let is = c.set-hand.ensures ∙ ap (λ (k : ℕ). set xs (k - 1) (record { last = (get_or xs (k - 1) idle).last; hand = Some c.args.hand })) c.from.ensures in (
+    let is = c.set_hand.ensures ∙ ap (λ (k : ℕ). set xs (k - 1) (record { last = (get_or xs (k - 1) idle).last; hand = Some c.args.hand })) c.from.ensures in (
       same_view _ _ refl refl is (answers_changed (length m.replicas.now) m.answers.now xs s c.requires.1.0 c.requires.1.1 st (λ x. None) (λ x. none_told (length m.replicas.now) m.answers.now s x c.args.hand c.requires.2) _ is) refl refl refl refl,
       (refl, refl, refl, refl, refl, c.requires.0.0, refl, c.requires.0.1),
     )

@@ -26,11 +26,11 @@ returns g c =
     let line = c.requires.line.1 in
     let row : s - 1 < length xs = omega (arith, line.0, line.1) in
     let within : (s - 1) * n + x < length answers = within_answers n (length xs) (s - 1) x (length answers) row c.requires.wide.0 c.requires.wide.2 in
-    let is = c.set-hand.ensures ∙ ap (λ (k : ℕ). set xs (k - 1) (record { last = (get_or xs (k - 1) idle).last; hand = Some hand })) c.from-row.ensures in
+    let is = c.set_hand.ensures ∙ ap (λ (k : ℕ). set xs (k - 1) (record { last = (get_or xs (k - 1) idle).last; hand = Some hand })) c.from-row.ensures in
     let put_is : c.put.new.places ≡ set answers ((s - 1) * n + x) pair =
     c.put.ensures ∙ ap (λ (k : ℕ). set answers ((k - 1) * n + c.from.result) pair) c.from-row.ensures ∙ ap (λ (k : ℕ). set answers ((s - 1) * n + k) pair) c.from.ensures in
-    let told = answers_told n answers xs s x line.0 line.1 c.requires.wide.0 within pair c.requires.told.0 hand c.requires.told.1 c.requires.told.2 (station_at xs s).last c.set-hand.new.stations is in
+    let told = answers_told n answers xs s x line.0 line.1 c.requires.wide.0 within pair c.requires.told.0 hand c.requires.told.1 c.requires.told.2 (station_at xs s).last c.set_hand.new.stations is in
     let ends = c.requires.line.0 in (
-      same_view _ _ refl refl is (λ r k. ap (λ (known : List (Pair g.row.V.Denot)). answers_of c.set-hand.new.stations n known r k) put_is ∙ told r k) refl refl refl refl,
+      same_view _ _ refl refl is (λ r k. ap (λ (known : List (Pair g.row.V.Denot)). answers_of c.set_hand.new.stations n known r k) put_is ∙ told r k) refl refl refl refl,
       (refl, refl, refl, c.put.auto.places, refl, ends.0, refl, ends.1),
     )

@@ -4,6 +4,6 @@ use Rattle.calls.proofs.places.close_gap.Goals as goal
 
 pub returns : goal.returns
 returns g c =
-    let len = c.rotate-left.ensures.len in
-    let moved = c.rotate-left.ensures.by_index.0 in
+    let len = c.rotate_left.ensures.len in
+    let moved = c.rotate_left.ensures.by_index.0 in
     same_lists _ _ (search (rules, places)) (λ k d h. grind (arith, places))

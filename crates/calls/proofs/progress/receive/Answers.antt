@@ -7,6 +7,6 @@ pub returns : goal.returns
 returns g c =
     let s = c.args.station in (
       c.tell.ensures.0
-          ∙ ap (λ (v : View g.row.V.Denot). change v s (last_of v s) (Some c.args.hand) (put (v.answers s) c.args.cabinet (Some c.args.pair))) c.take-off.ensures.0,
-      lends_on c.args.m.now c.take-off.new.m c.tell.new.m c.take-off.ensures.1 c.tell.ensures.1,
+          ∙ ap (λ (v : View g.row.V.Denot). change v s (last_of v s) (Some c.args.hand) (put (v.answers s) c.args.cabinet (Some c.args.pair))) c.take_off.ensures.0,
+      lends_on c.args.m.now c.take_off.new.m c.tell.new.m c.take_off.ensures.1 c.tell.ensures.1,
     )

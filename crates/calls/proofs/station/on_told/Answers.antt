@@ -3,7 +3,7 @@ use Rattle.words.specs.declared.refusal.Refusal.{Refusal}
 use Rattle.quorums.specs.Sets.{Member, Picked}
 use Rattle.line.specs.declared.types.Delivered.{Delivered}
 use Rattle.line.specs.Lines.{View, size}
-use Rattle.line.specs.Seen.{view}
+use Rattle.line.specs.Seen.{seen}
 use Rattle.line.specs.Steps.{Chosen}
 use Rattle.calls.specs.Changes.{off}
 use Rattle.calls.specs.Choices.{answer_of, chosen_line}
@@ -51,7 +51,7 @@ choose-choice-requires g c =
     let t = c.args.t in
     let told = c.requires.told in
     let picked = c.in-Some.ensures in
-    let below : (k : ℕ) → Member k c.in-Some.q → k < size (view m) = λ k member. omega (arith, g.met.S.QuorumSystem.line system c.in-Some.q picked.0 k member, c.requires.sound.0.1) in
+    let below : (k : ℕ) → Member k c.in-Some.q → k < size (seen m) = λ k member. omega (arith, g.met.S.QuorumSystem.line system c.in-Some.q picked.0 k member, c.requires.sound.0.1) in
     record {
       line = placed n few m c.requires.sound t c.requires.on.1;
       picked = picked.0;
@@ -81,11 +81,11 @@ apply-requires g c =
         after_row n few m sound t fits place on told.0 hand told.1 told.2 told.3 pair a becomes,
       );
       held = after_held n few m sound t fits place on told.0 hand told.1 told.2 told.3 pair a becomes;
-      places = λ sent. after_places n few m sound t fits place on told.0 hand told.1 told.2 told.3 pair a becomes (c.if-not-has-room.ensures sent);
+      places = λ sent. after_places n few m sound t fits place on told.0 hand told.1 told.2 told.3 pair a becomes (c.if-not-has_room.ensures sent);
     }
 
-pub returns-then-not-has-room : goal.returns-then-not-has-room
-returns-then-not-has-room g c =
+pub returns-then-not-has_room : goal.returns-then-not-has_room
+returns-then-not-has_room g c =
     let system = c.args.system.now in
     let n = g.S.QuorumSystem.size system in
     let F = g.S.QuorumSystem.quorum system in
@@ -101,10 +101,10 @@ returns-then-not-has-room g c =
     let pair = c.args.pair in
     let q = c.in-Some.q in
     let picked = c.in-Some.ensures in
-    let v = view m in
+    let v = seen m in
     let w = told_line (off v place) t hand pair in
     let below : (k : ℕ) → Member k q → k < size w = λ k member. omega (arith, g.met.S.QuorumSystem.line system q picked.0 k member, sound.0.1) in
-    let tight = c.if-not-has-room.ensures in
+    let tight = c.if-not-has_room.ensures in
     record {
       step = inr (
         q,
@@ -137,18 +137,18 @@ returns g c =
     let q = c.in-Some.q in
     let choice = c.choose-choice.result in
     let picked = c.in-Some.ensures in
-    let v = view m in
+    let v = seen m in
     let w = told_line (off v place) t hand pair in
     let below : (k : ℕ) → Member k q → k < size w = λ k member. omega (arith, g.met.S.QuorumSystem.line system q picked.0 k member, sound.0.1) in
-    let is : view b ≡ chosen_line w t.station hand choice = c.apply.ensures.1.0 ∙ ap (λ (x : View g.row.V.Denot). chosen_line x t.station hand choice) c.receive-2.ensures.0 in
+    let is : seen b ≡ chosen_line w t.station hand choice = c.apply.ensures.1.0 ∙ ap (λ (x : View g.row.V.Denot). chosen_line x t.station hand choice) c.receive-2.ensures.0 in
     let done = chosen F v (off v place) t w hand q below hand.work choice
     (chooses n few m sound t fits place on told.0 hand told.1 told.2 told.3 pair F q hand.work choice c.choose-choice.ensures)
-    (λ sent. room n few m sound t fits place on told.0 hand told.1 told.2 told.3 pair (c.if-not-has-room.ensures sent)) in
+    (λ sent. room n few m sound t fits place on told.0 hand told.1 told.2 told.3 pair (c.if-not-has_room.ensures sent)) in
     record {
       step = inr (
         q,
         picked,
-        subst (λ (r : Delivered). Chosen F v (off v place) t w hand q hand.work (Ok r) (view b)) (sym c.apply.ensures.0)
+        subst (λ (r : Delivered). Chosen F v (off v place) t w hand q hand.work (Ok r) (seen b)) (sym c.apply.ensures.0)
             (subst (λ (x : View g.row.V.Denot). Chosen F v (off v place) t w hand q hand.work (Ok (answer_of choice)) x) (sym is) done),
       );
       lent = lends_on m a b c.receive-2.ensures.1 c.apply.ensures.1.1;

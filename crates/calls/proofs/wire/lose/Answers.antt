@@ -8,7 +8,7 @@ pub returns-then-place-m : goal.returns-then-place-m
 returns-then-place-m g c =
     let m = c.args.m.now in
     let system = c.args.system.now in
-    let sound = c.in-ok-check.ensures.sound.0 in
+    let sound = c.in_ok-check.ensures.sound.0 in
     refused (g.S.QuorumSystem.size system) (g.S.QuorumSystem.quorum system) (lost c.args.place (Err NoTelegram)) m sound
     (inl (omega (arith, c.if-place-m.true, sent_is _ m sound), (NoTelegram, refl, refl, refl)))
 
@@ -16,6 +16,6 @@ pub returns : goal.returns
 returns g c =
     let m = c.args.m.now in
     let system = c.args.system.now in
-    let sound = c.in-ok-check.ensures.sound.0 in
-    accepted (g.S.QuorumSystem.size system) (g.S.QuorumSystem.quorum system) (lost c.args.place (Ok tt)) m c.take-off.new.m _ sound
-    (inr (omega (arith, c.if-place-m.false, sent_is _ m sound), refl, refl)) c.take-off.ensures refl
+    let sound = c.in_ok-check.ensures.sound.0 in
+    accepted (g.S.QuorumSystem.size system) (g.S.QuorumSystem.quorum system) (lost c.args.place (Ok tt)) m c.take_off.new.m _ sound
+    (inr (omega (arith, c.if-place-m.false, sent_is _ m sound), refl, refl)) c.take_off.ensures refl
