@@ -231,8 +231,10 @@ fn run(rt: &HostRuntime) -> anyhow::Result<()> {
     };
     let mut journal = vec![in heap; row; 16]?;
     let mut m = Memory {
-        first_count: 0,
-        first_value: none,
+        first: First {
+            count: 0,
+            value: none,
+        },
         replicas: replicas.as_mut_slice(),
         stations: stations.as_mut_slice(),
         answers: answers.as_mut_slice(),
