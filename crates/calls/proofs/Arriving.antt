@@ -1,12 +1,12 @@
 -- A telegram that counts at its station is what the steps say.
-use Rattle.std.proofs.Common.{◌≡◌, ℕ, ◌^◌, Some, None, Ok, Option, Result, sym, refl, ap, ◌∙◌, subst, inl, inr, ⊎_elim}
+use Rattle.std.proofs.Common.{◌≡◌, ℕ, ◌^◌, Some, Ok, Option, Result, sym, ap, subst, inl, inr, ⊎_elim}
 use lib.Bits.{bit_or}
 use Rattle.words.specs.declared.refusal.Refusal.{Refusal}
 use Rattle.telegrams.specs.declared.Pair.{Pair}
 use Rattle.telegrams.specs.declared.Telegram.{Telegram}
 use Rattle.telegrams.specs.declared.TelegramKind.{TelegramKind}
 use Rattle.telegrams.specs.declared.TelegramKind.TheVariants.{Told, Took}
-use Rattle.quorums.specs.Sets.{Member, Picked}
+use Rattle.quorums.specs.Sets.{Member}
 use Rattle.line.specs.declared.types.Delivered.{Delivered}
 use Rattle.line.specs.declared.types.Hand.{Hand}
 use Rattle.line.specs.declared.types.Stage.{Stage}

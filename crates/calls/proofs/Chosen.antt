@@ -1,5 +1,5 @@
 -- A choice that is carried out is what the steps say.
-use Rattle.std.proofs.Common.{◌≡◌, ℕ, ◌+◌, ◌<◌, true, List, map, length, get_or, Some, None, Ok, Err, Option, sym, refl, ap, ◌∙◌, subst, inl, inr, ⊎_elim, arith}
+use Rattle.std.proofs.Common.{◌≡◌, ℕ, ◌+◌, ◌<◌, true, List, map, Some, Ok, Err, Option, sym, refl, ap, ◌∙◌, subst, inl, inr, ⊎_elim, arith}
 use Rattle.std.specs.List.{slice_get, range_with_len}
 use Rattle.std.proofs.lemmas.List.FromFn.{get_or-map-range_with_len, length-map-range_with_len}
 use Rattle.std.proofs.lemmas.Simd.{map-map}
@@ -18,7 +18,6 @@ use Rattle.line.specs.declared.types.Work.TheVariants.{Read, Write}
 use Rattle.line.specs.Lines.{View, last_of, size, tag_of, told_tags}
 use Rattle.line.specs.Steps.{Chosen, Greatest, Lowest, Room}
 use Rattle.line.proofs.Keeps.{some_same}
-use Rattle.line.proofs.Moves.{nth_below}
 use Rattle.calls.specs.declared.choice.Choice.{Choice}
 use Rattle.calls.specs.declared.choice.Choice.TheVariants as choice
 use Rattle.calls.specs.Choices.{Chooses, GreatestIn, LowestIn, answer_of, chosen_line, sends}

@@ -5,10 +5,9 @@ use Rattle.std.proofs.lemmas.List.{get_or-set_other, get_or-set_same}
 use Rattle.std.proofs.lemmas.Bool.{cases_eq, cond-true, lt-ltb, ne_eqb}
 use Rattle.telegrams.specs.declared.Pair.{Pair}
 use Rattle.line.specs.declared.types.Hand.{Hand}
-use Rattle.line.specs.declared.types.Memory.{Memory}
 use Rattle.line.specs.declared.types.Station.{Station}
-use Rattle.line.specs.Lines.{IsStation, View, hand_of, idle, put, station_at}
-use Rattle.line.specs.Seen.{answers_of, live_in_line, seen}
+use Rattle.line.specs.Lines.{idle, put, station_at}
+use Rattle.line.specs.Seen.{answers_of, live_in_line}
 use Rattle.line.proofs.Keeps.{no_member, put_here, put_other}
 use Rattle.calls.proofs.Views.{either}
 

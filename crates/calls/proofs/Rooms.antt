@@ -3,7 +3,7 @@ use Rattle.std.proofs.Common.{◌≡◌, ℕ, ◌+◌, ◌-◌, ◌<◌, ◌≤�
 use Rattle.line.specs.declared.types.Memory.{Memory}
 use Rattle.line.specs.declared.types.Work.{Work}
 use Rattle.line.specs.declared.types.Work.TheVariants.{Read, Write}
-use Rattle.line.specs.Lines.{owed, size}
+use Rattle.line.specs.Lines.{owed}
 use Rattle.line.specs.Seen.{seen}
 use Rattle.line.specs.Memories.{Sound}
 use Rattle.line.specs.Steps.{Free, Room, wants}

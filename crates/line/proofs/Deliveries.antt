@@ -1,5 +1,5 @@
 -- A delivery keeps what holds of a line.
-use Rattle.std.proofs.Common.{◌≡◌, ℕ, ◌<◌, ◌≤◌, [], ◌∷◌, ◌++◌, length, set, Some, sym, refl, ap, ◌∙◌, subst, ⊎_elim, arith}
+use Rattle.std.proofs.Common.{◌≡◌, ℕ, ◌<◌, ◌≤◌, [], ◌∷◌, ◌++◌, length, Some, sym, refl, ap, ◌∙◌, subst, ⊎_elim, arith}
 use Rattle.std.specs.List.{remove}
 use Rattle.std.proofs.lemmas.List.{get_or-set_same}
 use Rattle.words.specs.Tags.{Before, Upto}
@@ -8,7 +8,6 @@ use Rattle.telegrams.specs.declared.Telegram.{Telegram}
 use Rattle.telegrams.specs.declared.TelegramKind.{TelegramKind}
 use Rattle.telegrams.specs.declared.TelegramKind.TheVariants.{Told, Set, Took}
 use Rattle.quorums.specs.Sets.{Member}
-use Rattle.views.specs.Views.{told}
 use Rattle.line.specs.declared.types.Hand.{Hand}
 use Rattle.line.specs.declared.types.Row.{Row}
 use Rattle.line.specs.declared.types.Stage.{Stage}
@@ -16,7 +15,7 @@ use Rattle.line.specs.declared.types.Stage.TheVariants.{Querying, Setting, Ended
 use Rattle.line.specs.Lines.{View, at_stage, ended_row, first_pair, hand_of, hold, last_of, note, replica, reply, send, size, store, to_all, with_bus}
 use Rattle.line.proofs.Invariants.{Among, Carries, Earned, EndedFits, Inv, KindFits, Known, SetFits, StageFits, TookFits}
 use Rattle.line.proofs.Moves.{New, begun_note, earned_note, inv_note, inv_store, known_note, nth_below}
-use Rattle.line.proofs.Keeps.{keep, off_and_on, over, setting, some_same, upto_same}
+use Rattle.line.proofs.Keeps.{keep, off_and_on, over, some_same, upto_same}
 use Rattle.line.proofs.Rows.{among_counted, ended_not_tagged}
 
 module _ {V : Type 0} (F : ℕ → Type 0) where

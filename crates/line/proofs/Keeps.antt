@@ -11,7 +11,6 @@ use Rattle.telegrams.specs.declared.TelegramKind.{TelegramKind}
 use Rattle.telegrams.specs.declared.TelegramKind.TheVariants.{Query, Told, Set, Took}
 use Rattle.quorums.specs.Sets.{Member}
 use Rattle.quorums.specs.Members.{bit_high}
-use Rattle.views.specs.Views.{told}
 use Rattle.line.specs.declared.types.Hand.{Hand}
 use Rattle.line.specs.declared.types.Stage.{Stage}
 use Rattle.line.specs.declared.types.Stage.TheVariants.{Querying, Setting, Ended}

@@ -1,5 +1,5 @@
 -- A job is tagged once and ends once, with one pair.
-use Rattle.std.proofs.Common.{◌≡◌, ℕ, ◌+◌, ◌-◌, ◌≤◌, ◌⊎◌, List, [], ◌∷◌, ◌++◌, length, set, Some, sym, refl, ap, ◌∙◌, subst, inl, inr, ⊎_elim, arith}
+use Rattle.std.proofs.Common.{◌≡◌, ℕ, ◌-◌, ◌≤◌, ◌⊎◌, List, [], ◌∷◌, ◌++◌, length, set, Some, sym, refl, ap, ◌∙◌, subst, inl, inr, ⊎_elim, arith}
 use Rattle.std.specs.List.{slice_get}
 use Rattle.std.proofs.lemmas.List.{get_or-set_other, get_or-set_same}
 use Rattle.std.proofs.lemmas.Bool.{cases_eq}
@@ -10,7 +10,6 @@ use Rattle.line.specs.declared.types.Stage.{Stage}
 use Rattle.line.specs.declared.types.Stage.TheVariants.{Querying, Setting, Ended, Spent}
 use Rattle.line.specs.declared.types.Station.{Station}
 use Rattle.line.specs.Runs.{Event, Step}
-use Rattle.line.specs.Steps.{begun}
 use Rattle.line.specs.Lines.{IsStation, View, begin_row, ended_row, given_row, hand_of, idle, note, spent_row, station_at, tagged_row}
 use Rattle.line.proofs.Invariants.{EndedRow, Inv, TaggedRow}
 use Rattle.line.proofs.Rows.{begin_not_ended, begin_not_tagged, ended_not_tagged, given_not_ended, given_not_tagged, spent_not_ended, spent_not_tagged, tagged_not_ended}

@@ -7,8 +7,6 @@ use Rattle.words.specs.declared.tag.Tag.{Tag}
 use Rattle.words.specs.Tags.{Before, Upto}
 use Rattle.words.proofs.TagOrders.{tag_order}
 use Rattle.telegrams.specs.declared.Pair.{Pair}
-use Rattle.views.specs.Views.{told}
-use Rattle.views.specs.declared.Verdict.TheVariants.{SecondTrip}
 use Rattle.line.specs.declared.types.Hand.{Hand}
 use Rattle.line.specs.declared.types.Row.{Row}
 use Rattle.line.specs.declared.types.RowKind.{RowKind}
@@ -22,9 +20,9 @@ use Rattle.line.specs.declared.types.Work.{Work}
 use Rattle.line.specs.declared.types.Work.TheVariants.{Write, Read}
 use Rattle.words.specs.declared.refusal.Refusal.{Refusal}
 use Rattle.line.specs.declared.types.Delivered.TheVariants as answer
-use Rattle.line.specs.Runs.{AtEqualTags, AtTime, BeginsAt, Carried, EndedAt, EndsAt, Event, Got, Laws, Moment, OrderOfJobs, Placed, Run, Shown, Sort, StandsBefore, Step, TripsAt, TripsCarry, began, collected, delivered, more, none, opened, read, work_of, write}
+use Rattle.line.specs.Runs.{AtEqualTags, AtTime, BeginsAt, Carried, EndedAt, EndsAt, Event, Got, Laws, Moment, OrderOfJobs, Placed, Run, Shown, Sort, StandsBefore, Step, TripsAt, TripsCarry, collected, delivered, more, none, opened, read, work_of, write}
 use Rattle.line.specs.declared.types.First.{First}
-use Rattle.line.specs.Steps.{Begins, Collects, Delivers, Over, begun}
+use Rattle.line.specs.Steps.{Begins, Collects, Delivers, Over}
 use Rattle.line.specs.Lines.{View, begin_row, first_pair, hand_of, idle, size, tagged_row}
 use Rattle.line.proofs.Invariants.{AboveEnded, Begun, Earned, EndedRow, Inv, TaggedRow}
 use Rattle.line.proofs.Rows.{begin_work}

@@ -1,5 +1,5 @@
 -- From one line a call has one answer and leaves one line.
-use Rattle.std.proofs.Common.{◌≡◌, ℕ, suc, ◌+◌, ◌-◌, ◌^◌, ◌<◌, ◌≤◌, true, false, ◌⊎◌, List, [], ◌∷◌, length, get_or, Some, None, Ok, Err, Option, Result, sym, refl, ap, ◌∙◌, subst, inl, inr, ⊎_elim, arith}
+use Rattle.std.proofs.Common.{◌≡◌, ℕ, suc, ◌+◌, ◌-◌, ◌^◌, ◌≤◌, true, false, ◌⊎◌, List, [], ◌∷◌, length, get_or, Some, None, Ok, Err, Option, Result, sym, refl, ap, ◌∙◌, subst, inl, inr, ⊎_elim, arith}
 use lib.Bits.{bit_or}
 use Rattle.std.specs.List.{remove}
 use Rattle.std.proofs.lemmas.Bool.{cases_order}
@@ -10,7 +10,7 @@ use Rattle.words.specs.declared.tag.Tag.{Tag}
 use Rattle.words.specs.Tags.{Before, Upto}
 use Rattle.words.proofs.TagOrders.{tag_order}
 use Rattle.quorums.specs.Sets.{Member, Picked}
-use Rattle.views.specs.Views.{Among, Earliest, Held, Judged, NoneLater, OtherAt, Rising, Struck, told}
+use Rattle.views.specs.Views.{Among, Earliest, Held, Judged, NoneLater, OtherAt, Rising, Struck}
 use Rattle.views.specs.declared.Verdict.{Verdict}
 use Rattle.views.specs.declared.Verdict.TheVariants.{OneTrip, SecondTrip}
 use Rattle.telegrams.specs.declared.Pair.{Pair}
@@ -25,7 +25,7 @@ use Rattle.line.specs.declared.types.Stage.{Stage}
 use Rattle.line.specs.declared.types.Stage.TheVariants.{Querying, Setting, Ended, Spent}
 use Rattle.line.specs.declared.types.Work.{Work}
 use Rattle.line.specs.declared.types.Work.TheVariants.{Write, Read}
-use Rattle.line.specs.Lines.{View, at_stage, change, hand_of, hold, last_of, note, put, replica, reply, send, ended_row, spent_row, tagged_row, told_tags, with_bus}
+use Rattle.line.specs.Lines.{View, at_stage, change, hand_of, hold, last_of, note, put, replica, reply, send, ended_row, tagged_row, told_tags, with_bus}
 use Rattle.line.specs.Results.{One, OneResult}
 use Rattle.line.specs.Steps.{Answer, AtHand, AtStation, Begins, Chosen, Claims, Collects, Delivers, Doubles, Fits, GivesUp, Greatest, Handed, InHand, Loses, Lowest, Over, Reads, Refused, Second, Shelves, Stored, Tags, TagsAfter, Takes, Tells, with_shelf}
 use Rattle.line.proofs.Keeps.{none_some, some_same}

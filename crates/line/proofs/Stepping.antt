@@ -9,7 +9,7 @@ use Rattle.telegrams.specs.declared.Telegram.{Telegram}
 use Rattle.telegrams.specs.declared.TelegramKind.{TelegramKind}
 use Rattle.telegrams.specs.declared.TelegramKind.TheVariants.{Query, Told, Set, Took}
 use Rattle.quorums.specs.Sets.{Inside, Member}
-use Rattle.views.specs.Views.{Judged, told}
+use Rattle.views.specs.Views.{Judged}
 use Rattle.views.specs.declared.Verdict.TheVariants.{OneTrip, SecondTrip}
 use Rattle.line.specs.declared.types.Hand.{Hand}
 use Rattle.line.specs.declared.types.Row.{Row}

@@ -1,11 +1,11 @@
 -- How many members sets have: inside one another, and two together.
-use Rattle.std.specs.Prelude.{◌≡◌, ℕ, zero, suc, ◌+◌, ◌*◌, ◌/◌, ◌%◌, ◌^◌, ◌<◌, ◌≤◌, min, max, bit_and, bit_or, refl}
+use Rattle.std.specs.Prelude.{◌≡◌, ℕ, suc, ◌+◌, ◌/◌, ◌%◌, ◌^◌, ◌≤◌, bit_and, bit_or, refl}
 use Rattle.std.proofs.Common.{◌∙◌, sym, ap, ⊎_elim, mod-lt, arith}
 use Rattle.std.proofs.lemmas.Nat.{pow_pos, ones_cat}
 use Rattle.std.proofs.Math.Arith.{bin_ind}
 use Rattle.std.specs.Int.Bits.{and_step, or_step, and_zero_l, or_zero_l}
 use Rattle.std.specs.Int.Count.{ones, ones_in, ones_step}
-use Rattle.quorums.specs.Sets.{Member, Inside}
+use Rattle.quorums.specs.Sets.{Inside}
 use Rattle.quorums.specs.Members.{bit, bit_half, front_more, member_or_not}
 
 pub ones_zero : ones 0 ≡ 0

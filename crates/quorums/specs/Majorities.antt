@@ -1,12 +1,12 @@
 -- Majorities: they have members of the line, any two share one, and the lowest members make the least.
-use Rattle.std.specs.Prelude.{◌≡◌, ℕ, suc, ◌+◌, ◌-◌, ◌*◌, ◌/◌, ◌%◌, ◌^◌, ◌<◌, ◌≤◌, Some, None, bit_and, bit_or, count_ones, refl}
-use Rattle.std.proofs.Common.{◌∙◌, sym, ap, subst, ⊎_elim, lt_of_lt_of_le, mod-lt, arith, pow_mono}
+use Rattle.std.specs.Prelude.{◌≡◌, ℕ, ◌+◌, ◌-◌, ◌/◌, ◌%◌, ◌^◌, ◌<◌, ◌≤◌, Some, None, bit_and, bit_or, count_ones}
+use Rattle.std.proofs.Common.{◌∙◌, sym, ap, ⊎_elim, lt_of_lt_of_le, mod-lt, arith, pow_mono}
 use Rattle.std.specs.Int.Count.{ones-ones}
 use Rattle.std.proofs.Math.Pow.{ones_lt}
 use Rattle.std.proofs.lemmas.Nat.{or_lt, pow_pos, ones-le}
 use Rattle.std.proofs.lemmas.Bool.{cases_eq, cases_lt}
 use Rattle.quorums.specs.Families.{MajorityOf}
-use Rattle.quorums.specs.Sets.{Member, Inside, Share, Picked}
+use Rattle.quorums.specs.Sets.{Member, Share, Picked}
 use Rattle.quorums.specs.Counting.{inside_ones, inside_same, ones_both, ones_zero}
 use Rattle.quorums.specs.Members.{front_inside, inside_front, share_and, some}
 

@@ -1,9 +1,9 @@
 -- The words of a telegram as the reader meets them: head, tag, and the value's own part.
-use Rattle.std.proofs.Common.{◌≡◌, ℕ, zero, suc, ◌+◌, ◌*◌, ◌/◌, ◌%◌, ◌^◌, ◌<◌, ◌≤◌, min, Bool, true, false, cond, ◌&&◌, eqb, leb, List, [], ◌∷◌, ◌++◌, length, get_or, take, drop, Some, sym, refl, ap, ◌∙◌, subst, ap₂, ⊎_elim, arith}
+use Rattle.std.proofs.Common.{◌≡◌, ℕ, zero, suc, ◌+◌, ◌/◌, ◌%◌, ◌^◌, ◌<◌, ◌≤◌, min, Bool, true, false, cond, ◌&&◌, eqb, leb, List, [], ◌∷◌, ◌++◌, length, get_or, take, drop, Some, sym, refl, ap, ◌∙◌, subst, ap₂, ⊎_elim, arith}
 use Rattle.std.proofs.lemmas.List.{take_all, take-take}
 use Rattle.std.proofs.lemmas.Bool.{cases_lt, cond-true, cond-false, eq-eqb, le-leb, lt-leb, and_from, and_right}
 use Rattle.std.proofs.lemmas.Bool.Decides.{nat_tests}
-use Rattle.words.specs.Judged.{judged, verdict, Clean, Faulted}
+use Rattle.words.specs.Judged.{judged, verdict, Faulted}
 use Rattle.words.specs.Refusals.{shifted}
 use Rattle.telegrams.specs.Telegrams.{IsHead, IsPair, IsTelegram, head_judge, head_of, owner_judge, pair_of, pair_run, tag_judges, telegram_run}
 use Rattle.words.specs.Words.{head_word, kind_of, kind_judge, marked}

@@ -1,5 +1,5 @@
 -- One run for each telegram, and words are read as a telegram exactly when they open with its run.
-use Rattle.std.proofs.Common.{◌≡◌, ℕ, ◌^◌, ◌<◌, ◌≤◌, cond, List, [], ◌∷◌, ◌++◌, length, take, drop, Some, None, Ok, Err, Option, Result, sym, refl, ap, ◌∙◌, subst, arith, lit≤}
+use Rattle.std.proofs.Common.{◌≡◌, ℕ, ◌≤◌, cond, List, [], ◌∷◌, ◌++◌, length, take, drop, Some, Ok, Err, Result, sym, refl, ap, ◌∙◌, subst, arith, lit≤}
 use Rattle.std.proofs.lemmas.List.{take-append-drop, take_at}
 use Rattle.words.specs.Judged.{judged, Clean}
 use Rattle.telegrams.specs.Telegrams.{Exact, IsPair, IsTelegram, OneRun, ReadAs, head_judge, head_of, kind_number, owner_judge, pair_of, pair_run, tag_judges, telegram_judges, telegram_run, within}

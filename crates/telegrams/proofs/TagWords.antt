@@ -1,5 +1,5 @@
 -- The fields of a tag, to be written and as read.
-use Rattle.std.proofs.Common.{◌≡◌, ℕ, ◌^◌, ◌<◌, ◌≤◌, cond, ltb, leb, [], ◌∷◌, refl}
+use Rattle.std.proofs.Common.{◌≡◌, ℕ, ◌^◌, ◌<◌, ◌≤◌, ltb, leb, [], ◌∷◌}
 use Rattle.std.proofs.lemmas.Bool.{cond-true, cond-false, lt-ltb, le-ltb, le-leb, lt-leb}
 use Rattle.words.specs.Judged.{Clean}
 use Rattle.telegrams.specs.Telegrams.{count_fault, owner_fault}

@@ -1,7 +1,7 @@
 -- The words of a telegram as the writer leaves them in the output.
-use Rattle.std.proofs.Common.{◌≡◌, ℕ, suc, ◌+◌, ◌-◌, ◌<◌, ◌≤◌, List, [], ◌∷◌, ◌++◌, length, take, drop, set, sym, refl, ap, ◌∙◌, ap₂, arith}
+use Rattle.std.proofs.Common.{◌≡◌, ℕ, suc, ◌+◌, ◌≤◌, List, [], ◌∷◌, ◌++◌, length, take, drop, set, refl, ap, ◌∙◌, arith}
 use borrow.Rule.Slice.PartMut.{put_mid}
-use Rattle.std.proofs.lemmas.List.{append-nil, drop_all, drop-drop, length-drop, length-take}
+use Rattle.std.proofs.lemmas.List.{append-nil, drop_all, drop-drop, length-take}
 
 -- the first three words, put down before what follows
 three : (os x : List ℕ) (a b c : ℕ) → 3 ≤ length os → set (set (set (take 3 os ++ x) 0 a) 1 b) 2 c ≡ a ∷ b ∷ c ∷ x

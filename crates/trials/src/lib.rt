@@ -67,7 +67,7 @@ mod tests {
                 sets.push(s)?;
             }
         }
-        sets.sort();
+        sets.sort()?;
         Ok(sets)
     }
 

@@ -1,5 +1,5 @@
 -- The known settings.
-use Rattle.std.proofs.Common.{◌≡◌, ℕ, zero, suc, ◌+◌, ◌/◌, ◌%◌, ◌^◌, ◌<◌, ◌≤◌, ◌⊎◌, List, [], ◌∷◌, length, get_or, Some, None, sym, refl, ap, ◌∙◌, subst, inl, inr, ⊎_elim, arith, lit<, lit≤}
+use Rattle.std.proofs.Common.{◌≡◌, ℕ, zero, suc, ◌^◌, ◌<◌, ◌⊎◌, [], ◌∷◌, Some, None, sym, refl, subst, inl, ⊎_elim, arith, lit<, lit≤}
 use lib.Count.{ones, ones_in}
 use Rattle.words.specs.declared.tag.Tag.{Tag}
 use Rattle.words.specs.Tags.{Before, Upto}
@@ -10,7 +10,7 @@ use Rattle.quorums.specs.Counting.{inside_ones}
 use Rattle.quorums.specs.Majorities.{least, too_few}
 use Rattle.quorums.specs.Members.{member_below, share_some}
 use Rattle.views.specs.Settings.{KnownSettings}
-use Rattle.views.specs.Views.{Earliest, Held, Judged, Latest, NoneLater, OtherAt, Struck, told}
+use Rattle.views.specs.Views.{Held, Judged, Latest, told}
 use Rattle.views.specs.declared.Verdict.TheVariants.{OneTrip, SecondTrip}
 use Rattle.views.proofs.Tops.{upto_refl}
 

@@ -1,12 +1,12 @@
 -- The law of a judgement, from what was judged.
-use Rattle.std.proofs.Common.{◌≡◌, ℕ, zero, suc, ◌+◌, ◌^◌, ◌<◌, ◌≤◌, min, ◌⊎◌, List, sym, refl, ◌∙◌, subst, inl, inr, ⊎_elim, arith}
+use Rattle.std.proofs.Common.{◌≡◌, ℕ, zero, suc, ◌^◌, ◌<◌, ◌⊎◌, List, refl, subst, inl, inr, ⊎_elim, arith}
 use lib.Bits.{bit_and}
 use Rattle.std.proofs.lemmas.Bool.{cases_lt}
 use Rattle.words.specs.declared.tag.Tag.{Tag}
-use Rattle.words.specs.Tags.{Before, Upto}
+use Rattle.words.specs.Tags.{Upto}
 use Rattle.words.proofs.TagOrders.{tag_order}
 use Rattle.quorums.specs.Sets.{Member, Share}
-use Rattle.quorums.specs.Members.{bit, bit_of_and, member_below, member_or_not}
+use Rattle.quorums.specs.Members.{bit_of_and, member_below, member_or_not}
 use Rattle.views.specs.Views.{Judged, Lawful, told}
 use Rattle.views.specs.declared.Verdict.{Verdict}
 use Rattle.views.specs.declared.Verdict.TheVariants.{OneTrip, SecondTrip}

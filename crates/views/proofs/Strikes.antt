@@ -1,5 +1,5 @@
 -- Striking: what holds while it goes on, and what it comes to.
-use Rattle.std.proofs.Common.{◌≡◌, ℕ, suc, ◌+◌, ◌^◌, ◌<◌, ◌≤◌, ◌⊎◌, ◌↔◌, List, [], ◌∷◌, length, sym, refl, ap, ◌∙◌, subst, inl, inr, ⊎_elim, arith}
+use Rattle.std.proofs.Common.{◌≡◌, ℕ, suc, ◌+◌, ◌^◌, ◌<◌, ◌≤◌, ◌⊎◌, ◌↔◌, List, [], ◌∷◌, sym, refl, ap, ◌∙◌, subst, inl, inr, ⊎_elim, arith}
 use lib.Count.{ones, ones-le}
 use Rattle.std.proofs.lemmas.Bool.{cases_eq}
 use Rattle.words.specs.declared.tag.Tag.{Tag}
@@ -8,7 +8,7 @@ use Rattle.words.proofs.TagOrders.{tag_order}
 use Rattle.quorums.specs.Sets.{Inside, Member, Those}
 use Rattle.quorums.specs.Counting.{inside_ones, inside_same}
 use Rattle.quorums.specs.Members.{member_below}
-use Rattle.views.specs.Views.{Among, Earliest, Held, Judged, Latest, NoneLater, OtherAt, Rising, Struck, told}
+use Rattle.views.specs.Views.{Held, Judged, Latest, NoneLater, OtherAt, Struck, told}
 use Rattle.views.specs.declared.Verdict.TheVariants.{OneTrip, SecondTrip}
 use Rattle.views.proofs.Tops.{upto_refl}
 

@@ -1,8 +1,8 @@
 -- The latest tag of the members so far.
-use Rattle.std.proofs.Common.{◌≡◌, ℕ, ◌+◌, ◌<◌, ◌≤◌, ◌⊎◌, List, Some, None, Option, sym, refl, ◌∙◌, subst, ⊎_elim, arith, MatchOption}
+use Rattle.std.proofs.Common.{◌≡◌, ℕ, ◌+◌, ◌<◌, ◌⊎◌, List, Some, None, Option, sym, ◌∙◌, subst, ⊎_elim, arith, MatchOption}
 use Rattle.std.proofs.lemmas.Bool.{cases_lt}
 use Rattle.words.specs.declared.tag.Tag.{Tag}
-use Rattle.words.specs.Tags.{Before, Upto}
+use Rattle.words.specs.Tags.{Upto}
 use Rattle.words.proofs.TagOrders.{tag_order}
 use Rattle.quorums.specs.Sets.{Member}
 use Rattle.views.specs.Views.{told, Held, Latest}

@@ -1,5 +1,5 @@
 -- Known settings: what is picked and judged in some small lines.
-use Rattle.std.specs.Prelude.{ℕ, List, [], ◌∷◌, Some, None}
+use Rattle.std.specs.Prelude.{ℕ, [], ◌∷◌, Some, None}
 use Rattle.words.specs.declared.tag.Tag.{Tag}
 use Rattle.words.specs.Tags.{Before}
 use Rattle.quorums.specs.Families.{MajorityOf, TableOf, Tight}

@@ -1,6 +1,6 @@
 -- Fields of a word: joined below others by a shift and an `or`, taken out by a mask.
-use Rattle.std.proofs.Common.{◌≡◌, ℕ, ◌+◌, ◌-◌, ◌*◌, ◌%◌, ◌^◌, ◌<◌, ap, ◌∙◌, mod-eq_of_lt, arith}
-use lib.Bits.{bit_and, bit_or}
+use Rattle.std.proofs.Common.{◌≡◌, ℕ, ◌+◌, ◌*◌, ◌%◌, ◌^◌, ◌<◌, ap, ◌∙◌, mod-eq_of_lt, arith}
+use lib.Bits.{bit_or}
 use Rattle.std.proofs.lemmas.Nat.{or_shifted}
 
 -- b goes into the k bits that a shift of a leaves free

@@ -1,5 +1,5 @@
 -- The order of tags is one row.
-use Rattle.std.proofs.Common.{◌≡◌, ℕ, ◌⊎◌, inl, inr, ⊎_elim, arith}
+use Rattle.std.proofs.Common.{◌≡◌, ◌⊎◌, inl, inr, ⊎_elim, arith}
 use Rattle.std.proofs.lemmas.Bool.{cases_lt, cases_order}
 use Rattle.words.specs.Tags.{Before, TagOrder, Upto}
 use Rattle.words.specs.declared.tag.Tag.{Tag}

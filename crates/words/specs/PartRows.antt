@@ -1,5 +1,5 @@
 -- Rows of parts: their words are good, and different rows have different words.
-use Rattle.std.specs.Prelude.{◌≡◌, ℕ, zero, suc, ◌+◌, ◌^◌, ◌<◌, ◌≤◌, cond, List, [], ◌∷◌, ◌++◌, map, length, take, drop, set, replicate, nat_lt, slice_index, slice_set, refl}
+use Rattle.std.specs.Prelude.{◌≡◌, ℕ, zero, suc, ◌+◌, ◌^◌, ◌<◌, ◌≤◌, List, [], ◌∷◌, ◌++◌, map, length, take, drop, set, replicate, nat_lt, slice_index, slice_set, refl}
 use Rattle.std.proofs.Common.{◌∙◌, sym, ap, ap₂, arith, lit<}
 use Rattle.std.proofs.lemmas.List.{append_assoc, drop_more, get_or-replicate, length-map, length-replicate, length-take, map_push, set_at, take_all, take_more, take_more_set}
 use Rattle.std.proofs.lemmas.Bool.{lt-ltb, le-ltb, cond-true, cond-false}

@@ -1,5 +1,5 @@
 -- A belt speed, 0 to 6,000, in one word of kind 7.
-use Rattle.std.specs.Prelude.{◌≡◌, ℕ, ◌%◌, ◌^◌, ◌≤◌, cond, List, [], ◌∷◌, ◌==◌, nat_le}
+use Rattle.std.specs.Prelude.{ℕ, ◌%◌, ◌^◌, ◌≤◌, cond, List, [], ◌∷◌, ◌==◌, nat_le}
 use Rattle.words.specs.declared.speed.Speed.{Speed}
 use Rattle.words.specs.Words.{kind_of, marked}
 

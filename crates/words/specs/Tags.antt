@@ -1,5 +1,5 @@
 -- The order of tags: by count, and at equal counts by owner.
-use Rattle.std.specs.Prelude.{◌≡◌, ℕ, ◌<◌, ◌≤◌, ◌⊎◌}
+use Rattle.std.specs.Prelude.{◌≡◌, ◌<◌, ◌≤◌, ◌⊎◌}
 use Rattle.words.specs.declared.tag.Tag.{Tag}
 
 -- a is earlier than b

@@ -1,5 +1,5 @@
 -- A word of 32 bits: its kind in the top four, and the fields of a head word.
-use Rattle.std.specs.Prelude.{ℕ, ◌+◌, ◌*◌, ◌/◌, ◌%◌, ◌^◌, cond, ◌==◌}
+use Rattle.std.specs.Prelude.{ℕ, ◌+◌, ◌*◌, ◌/◌, ◌^◌, cond, ◌==◌}
 use Rattle.words.specs.declared.word.Head.{Head}
 
 -- the kind of a word

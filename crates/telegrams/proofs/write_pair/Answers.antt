@@ -1,4 +1,4 @@
-use Rattle.std.proofs.Common.{◌≡◌, ℕ, ◌+◌, ◌-◌, List, length, set, sym, refl, ap, ◌∙◌, inr, arith}
+use Rattle.std.proofs.Common.{◌≡◌, ◌+◌, ◌-◌, length, set, refl, ◌∙◌, inr, arith}
 use borrow.Rule.Slice.PartMut.{put_mid}
 use Rattle.words.specs.Words.{marked}
 use Rattle.words.specs.Judging.{clean_none}

@@ -1,7 +1,6 @@
-use Rattle.std.proofs.Common.{◌≡◌, ℕ, ◌+◌, sym, ap, subst, arith}
+use Rattle.std.proofs.Common.{ℕ, ◌+◌, sym, subst, arith}
 use Rattle.words.specs.Tags.{Before, Upto}
 use Rattle.words.proofs.TagOrders.{tag_order}
-use Rattle.words.specs.declared.tag.Tag.{Tag}
 use Rattle.quorums.specs.Sets.{Member, Those}
 use Rattle.quorums.specs.Members.{those_passed, those_with}
 use Rattle.views.specs.Views.{told}

@@ -1,4 +1,4 @@
-use Rattle.std.proofs.Common.{◌≡◌, ℕ, ◌-◌, ◌^◌, ◌<◌, ◌≤◌, min, sym, ap, ◌∙◌, subst, ⊎_elim, arith}
+use Rattle.std.proofs.Common.{◌≡◌, ℕ, ◌-◌, ◌^◌, ◌<◌, min, sym, ap, ◌∙◌, subst, arith}
 use Rattle.quorums.specs.Sets.{Inside, Member}
 use Rattle.quorums.specs.Members.{all_inside, below, inside_all, member_below}
 use Rattle.views.proofs.Known.{known_settings}

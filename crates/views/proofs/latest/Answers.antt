@@ -1,4 +1,4 @@
-use Rattle.std.proofs.Common.{◌≡◌, ℕ, ◌+◌, Some, sym, ap, ◌∙◌, subst, arith}
+use Rattle.std.proofs.Common.{◌≡◌, ℕ, ◌+◌, sym, ap, subst, arith}
 use Rattle.quorums.specs.Members.{member_below}
 use Rattle.views.specs.Views.{told}
 use Rattle.views.proofs.Tops.{Top, top_all, top_more, top_same}

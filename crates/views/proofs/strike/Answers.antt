@@ -1,7 +1,6 @@
 use Rattle.std.proofs.Common.{◌≡◌, ℕ, min, subst, arith}
 use Rattle.quorums.specs.Sets.{Member, Those}
 use Rattle.views.proofs.Strikes.{fewer, one_trip, onward, second_trip, start}
-use Rattle.views.proofs.strike.Given as given
 use Rattle.views.proofs.strike.Goals as goal
 
 pub loop-next-init : goal.loop-next-init

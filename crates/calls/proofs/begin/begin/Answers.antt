@@ -1,4 +1,4 @@
-use Rattle.std.proofs.Common.{ℕ, ◌<◌, ◌≤◌, length, Ok, Err, sym, refl, ap, ◌∙◌, subst, inl, inr, arith}
+use Rattle.std.proofs.Common.{ℕ, ◌<◌, ◌≤◌, length, Ok, Err, sym, refl, ap, ◌∙◌, subst, inl, inr}
 use Rattle.words.specs.declared.refusal.Refusal.TheVariants.{BookFull, BusFull}
 use Rattle.line.specs.Lines.{size}
 use Rattle.line.specs.Seen.{seen}

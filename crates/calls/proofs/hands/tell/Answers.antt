@@ -1,4 +1,4 @@
-use Rattle.std.proofs.Common.{◌≡◌, ℕ, ◌+◌, ◌-◌, ◌*◌, ◌<◌, List, length, get_or, set, Some, sym, refl, ap, ◌∙◌, arith}
+use Rattle.std.proofs.Common.{◌≡◌, ℕ, ◌+◌, ◌-◌, ◌*◌, ◌<◌, List, length, get_or, set, Some, refl, ap, ◌∙◌, arith}
 use Rattle.telegrams.specs.declared.Pair.{Pair}
 use Rattle.line.specs.Lines.{idle, station_at}
 use Rattle.line.specs.Seen.{answers_of}

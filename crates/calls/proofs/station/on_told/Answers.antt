@@ -1,6 +1,5 @@
-use Rattle.std.proofs.Common.{◌≡◌, ℕ, ◌<◌, Some, None, Ok, Option, Result, sym, refl, ap, ◌∙◌, subst, inl, inr, arith}
-use Rattle.words.specs.declared.refusal.Refusal.{Refusal}
-use Rattle.quorums.specs.Sets.{Member, Picked}
+use Rattle.std.proofs.Common.{◌≡◌, ℕ, ◌<◌, Ok, sym, refl, ap, ◌∙◌, subst, inr, arith}
+use Rattle.quorums.specs.Sets.{Member}
 use Rattle.line.specs.declared.types.Delivered.{Delivered}
 use Rattle.line.specs.Lines.{View, size}
 use Rattle.line.specs.Seen.{seen}
@@ -9,7 +8,7 @@ use Rattle.calls.specs.Changes.{off}
 use Rattle.calls.specs.Choices.{answer_of, chosen_line}
 use Rattle.calls.specs.Effects.{told_line}
 use Rattle.calls.proofs.Chosen.{chosen, full}
-use Rattle.calls.proofs.Hearing.{after_held, after_line, after_places, after_row, all_told, chooses, in_line, no_room_left, now_told, placed, room, wide_enough}
+use Rattle.calls.proofs.Hearing.{after_held, after_line, after_places, after_row, all_told, chooses, in_line, no_room_left, placed, room, wide_enough}
 use Rattle.calls.proofs.Outcomes.{lends_on, lends_same, sound_ends}
 use Rattle.calls.proofs.Sending.{ends_after}
 use Rattle.calls.proofs.station.on_told.Goals as goal

@@ -1,7 +1,6 @@
-use Rattle.std.proofs.Common.{◌≡◌, length, Some, refl, ap, ◌∙◌, inl, inr, arith}
-use Rattle.line.specs.declared.types.Stage.TheVariants.{Ended, Setting}
+use Rattle.std.proofs.Common.{◌≡◌, length, refl, ap, ◌∙◌, inl, inr, arith}
+use Rattle.line.specs.declared.types.Stage.TheVariants.{Ended}
 use Rattle.line.specs.Lines.{View, at_stage, ended_row, hand_of, hold, note, owed_by}
-use Rattle.line.specs.Seen.{seen}
 use Rattle.line.proofs.Sounds.{setting_owes}
 use Rattle.calls.proofs.Outcomes.{lends_on, rows_left, sound_ends}
 use Rattle.calls.proofs.Sending.{ends_after, same_rows}

@@ -1,4 +1,4 @@
-use Rattle.std.proofs.Common.{◌≡◌, ℕ, Some, sym, ap, ◌∙◌, subst}
+use Rattle.std.proofs.Common.{Some, sym, ap, ◌∙◌}
 use Rattle.line.specs.Lines.{put, size}
 use Rattle.line.specs.Seen.{seen}
 use Rattle.line.proofs.Keeps.{put_here, put_other}

@@ -1,7 +1,6 @@
-use Rattle.std.proofs.Common.{◌≡◌, ℕ, ◌+◌, ◌≤◌, List, [], ◌∷◌, ◌++◌, length, drop, Ok, Err, vec_items, refl, arith, rules}
+use Rattle.std.proofs.Common.{◌≡◌, ◌+◌, ◌≤◌, [], ◌∷◌, ◌++◌, length, drop, Ok, Err, vec_items, refl, arith, rules}
 use Rattle.telegrams.specs.Telegrams.{ReadAs, telegram_run}
 use Rattle.capture.specs.Scans.{Scans}
-use Rattle.capture.specs.declared.scan.Item.{Item}
 use Rattle.capture.specs.declared.scan.Item.TheVariants.{Found, Refused}
 use Rattle.capture.proofs.Steps.{from, no_more, one_more, within}
 use Rattle.capture.proofs.scan.scan.Given as given

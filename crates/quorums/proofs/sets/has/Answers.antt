@@ -1,4 +1,4 @@
-use Rattle.std.proofs.Common.{◌/◌, ◌^◌, ◌<◌, eqb, ltb, sym, ◌∙◌, arith}
+use Rattle.std.proofs.Common.{◌/◌, ◌^◌, eqb, ltb, sym, ◌∙◌, arith}
 use lib.Bits.{bit_and}
 use Rattle.std.proofs.lemmas.Nat.{and_mask}
 use Rattle.std.proofs.lemmas.Bool.{eqb-false, eqb-true, ltb-true}

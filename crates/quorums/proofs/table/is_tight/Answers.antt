@@ -1,5 +1,4 @@
-use Rattle.std.proofs.Common.{◌≡◌, ℕ, ◌-◌, ◌^◌, ◌<◌, min, length, get_or, sym, ap, ◌∙◌, subst, ⊎_elim, arith, below_more}
-use Rattle.std.proofs.lemmas.Bool.{cases_lt}
+use Rattle.std.proofs.Common.{◌≡◌, ℕ, ◌-◌, ◌^◌, ◌<◌, min, length, get_or, sym, ap, ◌∙◌, subst, arith, below_more}
 use Rattle.quorums.specs.Sets.{Inside, Share}
 use Rattle.quorums.specs.Members.{all_inside, inside_all}
 use Rattle.quorums.proofs.table.is_tight.Goals as goal

@@ -1,4 +1,3 @@
-use Rattle.std.proofs.Common.{ℕ, ◌*◌, ◌<◌}
 use Rattle.quorums.specs.Sets.{Picked}
 use Rattle.quorums.specs.Grids.{CrossBelow}
 use Rattle.quorums.proofs.grid.GridQuorumSystem.pick.Given as goal

@@ -4,7 +4,7 @@ use Rattle.quorums.specs.Families.{MajorityOf}
 use Rattle.quorums.specs.Sets.{Picked}
 use Rattle.quorums.specs.Counting.{ones_more}
 use Rattle.quorums.specs.Majorities.{least, too_few}
-use Rattle.quorums.specs.Members.{bit, front_grown, front_without, member_or_not}
+use Rattle.quorums.specs.Members.{front_grown, front_without}
 use Rattle.quorums.proofs.majority.MajorityQuorumSystem.pick.Goals as goal
 use Rattle.quorums.proofs.majority.MajorityQuorumSystem.pick.Goals.{then-has+else-taken-needed, else-has}
 

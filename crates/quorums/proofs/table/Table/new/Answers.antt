@@ -1,4 +1,4 @@
-use Rattle.std.proofs.Common.{ℕ, List, get_or, vec_items, subst, arith}
+use Rattle.std.proofs.Common.{get_or, vec_items, subst, arith}
 use Rattle.quorums.specs.Families.{Tight}
 use Rattle.quorums.specs.Members.{share_some}
 use Rattle.quorums.proofs.table.Table.new.Goals as goal
