@@ -1,6 +1,6 @@
 // Grids: a whole row with a whole column.
 ghost use Rattle.std.specs.Prelude.{◌≡◌, ℕ, ◌*◌, ◌<◌, ◌≤◌, MatchResult};
-ghost use Rattle.std.proofs.Common.{sym, subst, rules, arith};
+ghost use Rattle.std.proofs.Common.{sym, subst};
 ghost use Rattle.words.specs.Refusals.{number};
 ghost use Rattle.quorums.specs.Families.{CrossOf, GridOf};
 ghost use Rattle.quorums.specs.Grids.{grid_member, grid_share, cross_grid, cross_some};
@@ -58,7 +58,7 @@ impl QuorumSystem for Grid {
 
     ghost quorum = { λ g. GridOf g.rows g.columns };
 
-    ghost sized = { first_of (Prim.search rules, Prim.grind (arith, Self.row.coded.inj)) };
+    ghost sized = { λ g. (g.some, g.most) };
 
     ghost member = { λ g q m. grid_member g.rows g.columns q m };
 

@@ -4,7 +4,6 @@ ghost use Rattle.words.specs.Refusals.{number};
 ghost use Rattle.quorums.specs.Families.{MajorityOf};
 ghost use Rattle.quorums.specs.Majorities.{majority_member, majority_share, majority_whole};
 ghost use Rattle.quorums.specs.Members.{member_below};
-ghost use Rattle.std.proofs.Common.{rules, arith};
 
 use crate::sets::{has, with};
 use crate::{MAX_CABINETS, QuorumSystem};
@@ -34,7 +33,7 @@ impl QuorumSystem for Majority {
 
     ghost quorum = { λ m. MajorityOf m.cabinets };
 
-    ghost sized = { first_of (Prim.search rules, Prim.grind (arith, Self.row.coded.inj)) };
+    ghost sized = { λ m. (m.some, m.most) };
 
     ghost member = { λ s q m. majority_member s.cabinets q m };
 

@@ -5,7 +5,6 @@ ghost use Rattle.quorums.specs.Families.{TableOf, Tight};
 ghost use Rattle.quorums.specs.Sets.{Picked, Share};
 ghost use Rattle.quorums.specs.Tables.{listed_share, listed_line};
 ghost use Rattle.quorums.specs.Members.{member_below};
-ghost use Rattle.std.proofs.Common.{rules, arith};
 
 use crate::sets::{all, do_share, is_inside, least};
 use crate::{MAX_CABINETS, QuorumSystem};
@@ -73,7 +72,7 @@ impl QuorumSystem for Table {
 
     ghost quorum = { λ t. TableOf t.quorums.items };
 
-    ghost sized = { first_of (Prim.search rules, Prim.grind (arith, Self.row.coded.inj)) };
+    ghost sized = { λ t. (t.some, t.most) };
 
     ghost member = { λ t q m.
         let both = listed_share t.quorums.items t.share q q m m in
