@@ -43,6 +43,8 @@ def main():
             why = refused(edit, top)
             bad += why is not None
             print(f"{edit}: {why or 'refused, as it must be'}")
+    if not edits:
+        print("there is no edit in crates/*/refused")
     if bad or not edits:
         sys.exit(1)
 

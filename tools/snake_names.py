@@ -3,8 +3,8 @@
 
 usage: snake_names.py [--check]     at the top of the repository; --check writes nothing
 
-What is turned: names with a dash that specs/ and proofs/ declare (definitions, lemmas, fields, constructors, local names),
-wherever .antt files, ghost parts of .rt files, must-fail edits and code spans of .md files have them. What stays: names that
+What is turned: names with a dash that specs/ and proofs/ declare (definitions, lemmas, fields, constructors, names of `let`,
+binders and λ), wherever .antt files, ghost parts of .rt files, must-fail edits and code spans of .md files have them. What stays: names that
 a file imports from the kit's libraries, names that the check makes (goals, and facts behind `c.`), comments, and all of Rust.
 A name whose new spelling is in use already is reported, and nothing is written.
 """

@@ -115,7 +115,7 @@ pub fn check_sizes<V, S: QuorumSystem>(system: &S, m: &Memory<'_, V>) -> Result<
 }
 
 // Does nothing. Its contract holds the theorems about the steps, for every kind of value and every quorum system: the order
-// of jobs in every run, that a call has one result, and the known facts.
+// of jobs in every run, that a call has one result, that a second trip carries its job's tag and value, and the known facts.
 pub fn steps_hold<V, S: QuorumSystem>(_system: &S)
     ensures order { (first : First V) (stations bus_places journal_places : ℕ) → OrderOfJobs (S.quorum _system.now) first (S.size _system.now) stations bus_places journal_places }
     ensures single { OneResult V (S.quorum _system.now) }
