@@ -61,10 +61,10 @@ none_struck tags q t n one (u ∷ us, rising, are, is) = let x = (are u).0 (inl 
 
 module _ {V : Type 0} where
   -- a station's record after a change, and that it is still one
-  here : (v : View V) (s : ℕ) → IsStation v s → (st : Station V) → station_at (set v.stations (s - 1) st) s ≡ st
+  pub here : (v : View V) (s : ℕ) → IsStation v s → (st : Station V) → station_at (set v.stations (s - 1) st) s ≡ st
   here v s line st = get_or-set_same v.stations (s - 1) st idle (omega (arith, line.0, line.1))
 
-  still : (v : View V) (s : ℕ) → IsStation v s → (st : Station V) → (1 ≤ s) × (s ≤ length (set v.stations (s - 1) st))
+  pub still : (v : View V) (s : ℕ) → IsStation v s → (st : Station V) → (1 ≤ s) × (s ≤ length (set v.stations (s - 1) st))
   still v s line st = (line.0, omega (arith, line.1, length-set v.stations (s - 1) st))
 
   -- a change that leaves the own last count

@@ -1,4 +1,5 @@
 use Rattle.views.proofs.Known.{known_settings}
+use Rattle.line.specs.Runs.{Laws}
 use Rattle.line.proofs.Excludes.{excluded}
 use Rattle.line.proofs.KnownRuns.{known_run}
 use Rattle.line.proofs.Order.{order_of_jobs, trips_carry}
@@ -6,15 +7,15 @@ use Rattle.line.proofs.Single.{one_result}
 use Rattle.line.proofs.steps_hold.Goals as goal
 
 pub returns : goal.returns
-returns g c = record {
-  order = λ first stations bus_places journal_places.
-      let met = g.met.S.QuorumSystem in
-      let s = c.args._system.now in
-      order_of_jobs (g.S.QuorumSystem.quorum s) (g.S.QuorumSystem.size s) (record { few = (met.sized s).1; member = met.member s; line = met.line s; share = met.share s }) first stations bus_places journal_places;
-  single = one_result g.row.V.Denot (g.S.QuorumSystem.quorum c.args._system.now);
-  carried = λ first stations bus_places journal_places.
-      let met = g.met.S.QuorumSystem in
-      let s = c.args._system.now in
-      trips_carry (g.S.QuorumSystem.quorum s) (g.S.QuorumSystem.size s) (record { few = (met.sized s).1; member = met.member s; line = met.line s; share = met.share s }) first stations bus_places journal_places;
-  known = record { settings = known_settings; excluded = excluded g.row.V.Denot (g.S.QuorumSystem.quorum c.args._system.now); run = known_run };
-}
+returns g c =
+    let s = c.args._system.now in
+    let met = g.met.S.QuorumSystem in
+    let F = g.S.QuorumSystem.quorum s in
+    let n = g.S.QuorumSystem.size s in
+    let laws : Laws F n = record { few = (met.sized s).1; member = met.member s; line = met.line s; share = met.share s } in
+    record {
+      order = order_of_jobs F n laws;
+      single = one_result g.row.V.Denot F;
+      carried = trips_carry F n laws;
+      known = record { settings = known_settings; excluded = excluded g.row.V.Denot F; run = known_run };
+    }
