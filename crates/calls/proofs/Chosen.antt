@@ -3,7 +3,7 @@ use Rattle.std.proofs.Common.{◌≡◌, ℕ, ◌+◌, ◌<◌, true, List, map,
 use Rattle.std.specs.List.{slice_get, range_with_len}
 use Rattle.std.proofs.lemmas.List.FromFn.{get_or-map-range_with_len, length-map-range_with_len}
 use Rattle.std.proofs.lemmas.Simd.{map-map}
-use Rattle.std.proofs.lemmas.Option.{slice_get-get_or}
+use Rattle.std.proofs.lemmas.Option.{same_Some, slice_get-get_or}
 use Rattle.words.specs.declared.refusal.Refusal.TheVariants.{BusFull}
 use Rattle.words.specs.declared.tag.Tag.{Tag}
 use Rattle.telegrams.specs.declared.Pair.{Pair}
@@ -17,7 +17,6 @@ use Rattle.line.specs.declared.types.Work.{Work}
 use Rattle.line.specs.declared.types.Work.TheVariants.{Read, Write}
 use Rattle.line.specs.Lines.{View, last_of, size, tag_of, told_tags}
 use Rattle.line.specs.Steps.{Chosen, Greatest, Lowest, Room}
-use Rattle.line.proofs.Keeps.{some_same}
 use Rattle.calls.specs.declared.choice.Choice.{Choice}
 use Rattle.calls.specs.declared.choice.Choice.TheVariants as choice
 use Rattle.calls.specs.Choices.{Chooses, GreatestIn, LowestIn, answer_of, chosen_line, sends}
@@ -36,7 +35,7 @@ module _ {V : Type 0} (F : ℕ → Type 0) (before v : View V) (t : Telegram V) 
 
   -- a telling in the list is one that the view has
   seen : (k : ℕ) (p : Pair V) → Member k q → slice_get told k ≡ Some (Some p) → w.answers s k ≡ Some p
-  seen k p member e = some_same (sym (nth_counted (w.answers s) (size w) k (below k member)) ∙ e)
+  seen k p member e = same_Some _ _ (sym (nth_counted (w.answers s) (size w) k (below k member)) ∙ e)
 
   listed : (k : ℕ) (p : Pair V) → Member k q → w.answers s k ≡ Some p → slice_get told k ≡ Some (Some p)
   listed k p member e = nth_counted (w.answers s) (size w) k (below k member) ∙ ap Some e

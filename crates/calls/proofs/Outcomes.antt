@@ -1,15 +1,13 @@
--- The three ways in which a call comes out: memory not sound, refused, accepted.
-use Rattle.std.proofs.Common.{◌≡◌, ℕ, ◌+◌, ◌-◌, ◌≤◌, length, Some, None, sym, refl, ap, ◌∙◌, subst, inl, inr, arith}
+-- The two ways in which a call on sound memory comes out: refused, accepted.
+use Rattle.std.proofs.Common.{◌≡◌, ℕ, ◌+◌, ◌-◌, ◌≤◌, length, Some, None, sym, refl, ap, ◌∙◌, subst, inr, arith}
+use Rattle.std.proofs.lemmas.Option.{none-some}
 use Rattle.std.proofs.lemmas.List.{length-take-le}
-use Rattle.words.specs.declared.refusal.Refusal.{Refusal}
-use Rattle.words.specs.Refusals.{number}
 use Rattle.line.specs.declared.types.Hand.{Hand}
 use Rattle.line.specs.declared.types.Memory.{Memory}
 use Rattle.line.specs.Lines.{IsStation, View, hand_of, idle, owed_by, owed_in}
 use Rattle.line.specs.Seen.{seen}
 use Rattle.line.specs.Memories.{Called, Lends, Sound, refusal}
 use Rattle.line.specs.Runs.{Event, Step}
-use Rattle.line.proofs.Keeps.{none_some}
 use Rattle.line.proofs.Sounds.{owed_set}
 use Rattle.calls.specs.Changes.{Becomes, Ends}
 
@@ -30,15 +28,12 @@ module _ {V : Type 0} where
   lends_on m a b x y = (y.0 ∙ x.0, y.1 ∙ x.1, y.2 ∙ x.2, y.3 ∙ x.3, y.4 ∙ x.4, y.5, y.6 ∙ x.6, y.7)
 
   module _ (n : ℕ) (F : ℕ → Type 0) (e : Event V) (m : Memory V) where
-    pub unsound : (Sound n m → ⊥) → (x : Refusal) → refusal e ≡ Some x → number x ≡ 1 → Called n F e m m
-    unsound bad x is one = inl (bad, (x, is, one), refl)
-
     pub refused : Sound n m → Step F (seen m) e (seen m) → Called n F e m m
     refused sound step = inr (sound, step, lends_same m (sound_ends n m sound), λ x is. refl)
 
     pub accepted : (after : Memory V) (w : View V) → Sound n m → Step F (seen m) e w → Becomes m w after → refusal e ≡ None → Called n F e m after
     accepted after w sound step becomes ok =
-        inr (sound, subst (Step F (seen m) e) (sym becomes.0) step, becomes.1, λ x is. none_some x (sym ok ∙ is))
+        inr (sound, subst (Step F (seen m) e) (sym becomes.0) step, becomes.1, λ x is. absurd (none-some x (sym ok ∙ is)))
 
   -- the rows owed for one job are free
   pub rows_left : (n : ℕ) (m : Memory V) (s : ℕ) (h : Hand V) → Sound n m → IsStation (seen m) s → hand_of (seen m) s ≡ Some h → m.written + owed_by h.work h.stage ≤ length m.journal.now

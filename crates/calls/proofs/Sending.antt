@@ -3,7 +3,7 @@ use Rattle.std.proofs.Common.{◌≡◌, ℕ, ◌+◌, ◌<◌, ◌≤◌, List,
 use Rattle.std.specs.List.{remove, range_with_len}
 use Rattle.std.proofs.lemmas.List.FromFn.{length-map-range_with_len, map-range_with_len_more}
 use Rattle.std.proofs.lemmas.List.Edits.{length-remove}
-use Rattle.std.proofs.lemmas.List.{append_assoc, append-nil, length-append, length-take-le}
+use Rattle.std.proofs.lemmas.List.{append_assoc, length-append, length-take-le}
 use Rattle.telegrams.specs.declared.Pair.{Pair}
 use Rattle.telegrams.specs.declared.Telegram.{Telegram}
 use Rattle.line.specs.declared.types.Memory.{Memory}
@@ -16,9 +16,6 @@ use Rattle.calls.specs.Changes.{Becomes, Ends}
 module _ {V : Type 0} where
   pub bus_length : (m : Memory V) → m.sent ≤ length m.bus.now → length (seen m).bus ≡ m.sent
   bus_length m within = length-take-le m.sent m.bus.now within
-
-  pub send_none : (v : View V) → v ≡ send v []
-  send_none v = sym (ap (with_bus v) (append-nil v.bus))
 
   -- one more telegram, for the next cabinet
   pub send_more : (v w x : View V) (f : ℕ → Telegram V) (k : ℕ) → w ≡ send v (map f (range_with_len 0 k)) → x ≡ send w (f k ∷ []) → x ≡ send v (map f (range_with_len 0 (k + 1)))
@@ -48,11 +45,13 @@ module _ {V : Type 0} where
   stored_bus v w c p (inl later) = (ap (λ (z : View V). z.bus) later.1, ap (λ (z : View V). z.bus_places) later.1)
   stored_bus v w c p (inr passed) = (ap (λ (z : View V). z.bus) passed.1, ap (λ (z : View V). z.bus_places) passed.1)
 
+  -- whatever lies on the bus, the same is stored
+  pub stored_off : (v w : View V) (c : ℕ) (p : Pair V) → Stored v c p w → (bus : List (Telegram V)) → Stored (with_bus v bus) c p (with_bus w bus)
+  stored_off v w c p (inl later) bus = inl (later.0, ap (λ (z : View V). with_bus z bus) later.1)
+  stored_off v w c p (inr passed) bus = inr (passed.0, ap (λ (z : View V). with_bus z bus) passed.1)
+
   -- where a step left journal or bus alone, as many rows or places are free after it
   module _ (m a : Memory V) (v : View V) (ends : Ends m) (becomes : Becomes m v a) where
-    pub ends_after : Ends a
-    ends_after = (becomes.1.5, becomes.1.7)
-
     pub same_rows : v.journal ≡ (seen m).journal → v.journal_places ≡ (seen m).journal_places → (a.written ≡ m.written) × (length a.journal.now ≡ length m.journal.now)
     same_rows rows long =
         let is = ap (λ (z : View V). length z.journal) becomes.0 ∙ ap (λ (xs : List (Row V)). length xs) rows in (
@@ -60,12 +59,9 @@ module _ {V : Type 0} where
           ap (λ (z : View V). z.journal_places) becomes.0 ∙ long,
         )
 
-    pub row_free : v.journal ≡ (seen m).journal → v.journal_places ≡ (seen m).journal_places → m.written < length m.journal.now → Ends a × (a.written < length a.journal.now)
-    row_free rows long l = let same = same_rows rows long in (ends_after, omega (arith, same.0, same.1))
-
-    pub places_free : v.bus ≡ (seen m).bus → v.bus_places ≡ (seen m).bus_places → length v.replicas ≡ length (seen m).replicas → (length m.replicas.now ≤ 16) × (m.sent + length m.replicas.now ≤ length m.bus.now) → Ends a × (length a.replicas.now ≤ 16) × (a.sent + length a.replicas.now ≤ length a.bus.now)
+    pub places_free : v.bus ≡ (seen m).bus → v.bus_places ≡ (seen m).bus_places → length v.replicas ≡ length (seen m).replicas → (length m.replicas.now ≤ 16) × (m.sent + length m.replicas.now ≤ length m.bus.now) → (length a.replicas.now ≤ 16) × (a.sent + length a.replicas.now ≤ length a.bus.now)
     places_free bus wide many places =
         let sent = bus_kept m a ends.0 becomes.1.5 (ap (λ (z : View V). z.bus) becomes.0 ∙ bus) in
         let room : length a.bus.now ≡ length m.bus.now = ap (λ (z : View V). z.bus_places) becomes.0 ∙ wide in
         let all : length a.replicas.now ≡ length m.replicas.now = ap (λ (z : View V). length z.replicas) becomes.0 ∙ many in
-        (ends_after, omega (arith, places.0), omega (arith, places.1))
+        (omega (arith, places.0), omega (arith, places.1))

@@ -2,6 +2,8 @@
 use Rattle.std.proofs.Common.{◌≡◌, ℕ, zero, suc, ◌+◌, ◌-◌, ◌*◌, ◌/◌, ◌%◌, ◌^◌, ◌<◌, ◌≤◌, cond, eqb, ltb, List, [], ◌∷◌, length, set, Some, None, Option, sym, refl, ap, ◌∙◌, subst, ⊎_elim, arith}
 use lib.Bits.{bit_or}
 use Rattle.std.specs.List.{slice_get}
+use Rattle.std.proofs.lemmas.List.{get_or-set_same, length-set}
+use Rattle.std.proofs.lemmas.Option.{slice_get-get_or}
 use Rattle.std.proofs.lemmas.Nat.{div-mul-add, mod-mul-add, mul-add-lt}
 use Rattle.std.proofs.lemmas.Bool.{cases_eq, cases_lt, cond-false, cond-true, eq-eqb, le-ltb, lt-ltb}
 use Rattle.telegrams.specs.declared.Pair.{Pair}
@@ -12,12 +14,7 @@ use Rattle.line.specs.declared.types.Station.{Station}
 use Rattle.line.specs.Lines.{put, station_at}
 use Rattle.line.specs.Seen.{answers_of, live_in_line}
 use Rattle.line.proofs.Keeps.{put_here, put_other}
-use Rattle.calls.proofs.Live.{answers_changed, own_answers}
-
-nth_set_same : {X : Type 0} (xs : List X) (i : ℕ) (x : X) → i < length xs → slice_get (set xs i x) i ≡ Some x
-nth_set_same [] i x l = absurd (omega arith)
-nth_set_same (y ∷ xs) zero x l = refl
-nth_set_same (y ∷ xs) (suc i) x l = nth_set_same xs i x (omega arith)
+use Rattle.calls.proofs.Live.{own_answers}
 
 nth_set_other : {X : Type 0} (xs : List X) (i j : ℕ) (x : X) → (j ≡ i → ⊥) → slice_get (set xs i x) j ≡ slice_get xs j
 nth_set_other [] i j x ne = refl
@@ -66,31 +63,31 @@ module _ {V : Type 0} (n : ℕ) (answers : List (Pair V)) (stations : List (Stat
       ap (λ (a : Option (Pair V)). cond (ltb 0 r) a None) (live_kept r x one_r (λ both. ne both.0) (station_at stations r).hand))
       (cases_eq r 0)
 
+  -- with the station's answers put down, all are as before
+  pub others_told : (f : ℕ → Option (Pair V)) (r x : ℕ) → put (answers_of stations n told_answers) s f r x ≡ put (answers_of stations n answers) s f r x
+  others_told f r x =
+      ⊎_elim
+      (λ here.
+      subst (λ (k : ℕ). put (answers_of stations n told_answers) s f k x ≡ put (answers_of stations n answers) s f k x) (sym here)
+      (ap (λ (g : ℕ → Option (Pair V)). g x) (put_here (answers_of stations n told_answers) s f ∙ sym (put_here (answers_of stations n answers) s f))))
+      (λ there.
+      ap (λ (g : ℕ → Option (Pair V)). g x) (put_other (answers_of stations n told_answers) s f r there)
+      ∙ others_kept r x there ∙ sym (ap (λ (g : ℕ → Option (Pair V)). g x) (put_other (answers_of stations n answers) s f r there)))
+      (cases_eq r s)
+
   module _ (h hand : Hand V) (held : (station_at stations s).hand ≡ Some h) (told : hand.told ≡ bit_or h.told (2 ^ c)) where
     -- the station's answers, with the one more
-    own_told : (x : ℕ) → live_in_line n told_answers s x (Some hand) ≡ put (answers_of stations n answers s) c (Some pair) x
+    pub own_told : (x : ℕ) → live_in_line n told_answers s x (Some hand) ≡ put (answers_of stations n answers s) c (Some pair) x
     own_told x =
         ⊎_elim
         (λ here.
         subst (λ (k : ℕ). live_in_line n told_answers s k (Some hand) ≡ put (answers_of stations n answers s) c (Some pair) k) (sym here)
         (cond-true (ltb c n) _ None (lt-ltb c n below)
         ∙ cond-true (eqb (hand.told / 2 ^ c % 2) 1) _ None (eq-eqb (hand.told / 2 ^ c % 2) 1 (subst (Member c) (sym told) (with_member h.told c)))
-        ∙ nth_set_same answers ((s - 1) * n + c) pair wide ∙ sym (put_here (answers_of stations n answers s) c (Some pair))))
+        ∙ slice_get-get_or told_answers ((s - 1) * n + c) pair (omega (arith, length-set answers ((s - 1) * n + c) pair))
+        ∙ ap Some (get_or-set_same answers ((s - 1) * n + c) pair pair wide) ∙ sym (put_here (answers_of stations n answers s) c (Some pair))))
         (λ there.
         live_kept s x one (λ both. there both.1) (Some hand)
         ∙ ap (λ (b : ℕ). cond (ltb x n) (cond (eqb b 1) (slice_get answers ((s - 1) * n + x)) None) None) (ap (λ (t : ℕ). t / 2 ^ x % 2) told ∙ other_bit h.told c x there)
         ∙ ap (live_in_line n answers s x) (sym held) ∙ sym (own_answers stations n answers s x one) ∙ sym (put_other (answers_of stations n answers s) c (Some pair) x there))
         (cases_eq x c)
-
-    pub answers_told : (last : ℕ) (after : List (Station V)) → after ≡ set stations (s - 1) (record { last = last; hand = Some hand }) → (r x : ℕ) → answers_of after n told_answers r x ≡ put (answers_of stations n answers) s (put (answers_of stations n answers s) c (Some pair)) r x
-    answers_told last after is r x =
-        let f = put (answers_of stations n answers s) c (Some pair) in
-        answers_changed n told_answers stations s one few (record { last = last; hand = Some hand }) f own_told after is r x
-        ∙ ⊎_elim
-        (λ here.
-        subst (λ (k : ℕ). put (answers_of stations n told_answers) s f k x ≡ put (answers_of stations n answers) s f k x) (sym here)
-        (ap (λ (g : ℕ → Option (Pair V)). g x) (put_here (answers_of stations n told_answers) s f ∙ sym (put_here (answers_of stations n answers) s f))))
-        (λ there.
-        ap (λ (g : ℕ → Option (Pair V)). g x) (put_other (answers_of stations n told_answers) s f r there)
-        ∙ others_kept r x there ∙ sym (ap (λ (g : ℕ → Option (Pair V)). g x) (put_other (answers_of stations n answers) s f r there)))
-        (cases_eq r s)

@@ -1,14 +1,13 @@
 -- When the views of two memories are the same.
-use Rattle.std.proofs.Common.{◌≡◌, ℕ, ◌-◌, ◌<◌, ◌≤◌, Bool, true, false, cond, ltb, List, [], ◌∷◌, length, get_or, take, replicate, Some, None, Option, sym, refl, ap, ◌∙◌, ⊎_elim, arith}
+use Rattle.std.proofs.Common.{◌≡◌, ℕ, ◌-◌, ◌<◌, ◌≤◌, Bool, true, false, cond, ltb, List, [], ◌∷◌, length, get_or, replicate, Some, None, Option, sym, refl, ap, ◌∙◌, ⊎_elim, arith}
 use mathlib.Core.Path.{fun_ext}
 use Rattle.std.specs.List.{slice_get}
-use Rattle.std.proofs.lemmas.List.{get_or-take, length-take-le}
+use Rattle.std.specs.Option.{is_some}
 use Rattle.std.proofs.lemmas.Bool.{cases_lt}
-use Rattle.std.proofs.lemmas.Option.{slice_get-get_or}
+use Rattle.std.proofs.lemmas.Option.{none-some, slice_get-get_or}
 use Rattle.telegrams.specs.declared.Pair.{Pair}
 use Rattle.line.specs.declared.types.Hand.{Hand}
 use Rattle.line.specs.declared.types.Station.{Station}
-use Rattle.line.proofs.Keeps.{none_some, some_same}
 use Rattle.line.proofs.Order.{all_one}
 use Rattle.line.specs.Lines.{View, idle}
 use Rattle.line.specs.Seen.{answers_of, live_in_line}
@@ -36,12 +35,6 @@ module _ {V : Type 0} where
   idle_answers m n answers s c =
       ap (λ (h : Option (Hand V)). cond (ltb 0 s) (live_in_line n answers s c h) None) (ap (λ (st : Station V). st.hand) (all_one m (s - 1) idle)) ∙ either (ltb 0 s) None
 
--- what a live place holds
-pub live_place : {X : Type 0} (xs : List X) (n i : ℕ) (x : X) → i < n → n ≤ length xs → slice_get xs i ≡ Some x → slice_get (take n xs) i ≡ Some x
-live_place xs n i x l within is =
-    let same : get_or xs i x ≡ x = some_same (sym (slice_get-get_or xs i x (omega arith)) ∙ is) in
-    slice_get-get_or (take n xs) i x (omega (arith, length-take-le n xs within)) ∙ ap Some (get_or-take n xs i x l ∙ same)
-
 -- there is something at every place
 pub some_place : {X : Type 0} (xs : List X) (i : ℕ) → i < length xs → (x : X) × (slice_get xs i ≡ Some x)
 some_place [] i l = absurd (omega arith)
@@ -51,4 +44,9 @@ some_place (x ∷ xs) i l = (get_or (x ∷ xs) i x, slice_get-get_or (x ∷ xs) 
 pub none_past : {X : Type 0} (xs : List X) (i : ℕ) → slice_get xs i ≡ None → length xs ≤ i
 none_past [] i e = omega arith
 none_past (x ∷ xs) i e =
-    ⊎_elim (λ l. none_some (get_or (x ∷ xs) i x) (sym e ∙ slice_get-get_or (x ∷ xs) i x l)) (λ l. l) (cases_lt i (length (x ∷ xs)))
+    ⊎_elim (λ l. absurd (none-some (get_or (x ∷ xs) i x) (sym e ∙ slice_get-get_or (x ∷ xs) i x l))) (λ l. l) (cases_lt i (length (x ∷ xs)))
+
+-- nothing is there where not something is
+pub not_some : {X : Type 0} (o : Option X) → is_some o ≡ false → o ≡ None
+not_some None e = refl
+not_some (Some x) e = let z : ◌≡◌ {A = ℕ} 0 1 = cc in absurd (omega arith)

@@ -1,5 +1,5 @@
 -- One change of the memory, within the ends and lengths that a call has judged.
-use Rattle.std.specs.Prelude.{◌≡◌, ℕ, ◌*◌, ◌≤◌, List, map, length, Some, None, Option}
+use Rattle.std.specs.Prelude.{◌≡◌, ℕ, ◌*◌, ◌<◌, ◌≤◌, List, map, length, Some, None, Option}
 use Rattle.std.specs.List.{remove, range_with_len}
 use Rattle.telegrams.specs.declared.Pair.{Pair}
 use Rattle.telegrams.specs.declared.Telegram.{Telegram}
@@ -14,6 +14,19 @@ module _ {V : Type 0} where
   -- the two ends lie within their places
   abbrev pub Ends : Memory V → Type 0
   Ends m = (m.sent ≤ length m.bus.now) × (m.written ≤ length m.journal.now)
+
+  -- a telegram lies at the place of the bus
+  abbrev pub OnBus : Memory V → ℕ → Type 0
+  OnBus m place = Ends m × (place < m.sent)
+
+  -- there is such a cabinet
+  abbrev pub IsCabinet : Memory V → ℕ → Type 0
+  IsCabinet m cabinet = cabinet < length m.replicas.now
+
+  -- the cabinet's answers to all stations have their places
+  abbrev pub HasAnswers : Memory V → ℕ → Type 0
+  HasAnswers m cabinet =
+      IsCabinet m cabinet × (length m.replicas.now ≤ 16) × (length m.answers.now ≡ length m.replicas.now * length m.stations.now)
 
   -- the memory holds the line v now, in the same slices
   abbrev pub Becomes : Memory V → View V → Memory V → Type 0

@@ -1,5 +1,5 @@
 -- What a station makes of the tellings of a quorum.
-use Rattle.std.specs.Prelude.{◌≡◌, ℕ, ◌+◌, ◌-◌, ◌^◌, ◌<◌, ◌≤◌, Bool, true, false, ◌⊎◌, List, map, Some, None, Option, ◌≢◌}
+use Rattle.std.specs.Prelude.{◌≡◌, ℕ, ◌+◌, ◌-◌, ◌^◌, ◌<◌, ◌≤◌, Bool, true, false, ◌⊎◌, List, map, Some, Option, ◌≢◌}
 use Rattle.std.specs.List.{slice_get}
 use Rattle.words.specs.declared.tag.Tag.{Tag}
 use Rattle.telegrams.specs.declared.Pair.{Pair}
@@ -22,6 +22,11 @@ module _ {V : Type 0} (told : List (Option (Pair V))) (q : ℕ) where
   abbrev pub Tells : ℕ → Pair V → Type 0
   Tells k p = Member k q × (slice_get told k ≡ Some (Some p))
 
+  -- each member of q told a pair
+  abbrev pub AllTold : Type 0
+  AllTold = (k : ℕ) → Member k q → (p : Pair V) × (slice_get told k ≡ Some (Some p))
+
+  -- The next two say of a list of tellings what Greatest and Lowest of the line's Steps say of a whole line.
   -- the greatest of q's counts and the station's own last count
   abbrev pub GreatestIn : ℕ → ℕ → Type 0
   GreatestIn last g =
@@ -32,10 +37,6 @@ module _ {V : Type 0} (told : List (Option (Pair V))) (q : ℕ) where
   abbrev pub LowestIn : Tag → Pair V → Type 0
   LowestIn tag p =
       (k : ℕ) × Tells k p × (p.tag ≡ tag) × ((i : ℕ) (u : Pair V) → i < k → Tells i u → u.tag ≢ tag)
-
-  abbrev pub LowestOr : Tag → Option (Pair V) → Type 0
-  LowestOr tag (Some p) = LowestIn tag p
-  LowestOr tag None = (k : ℕ) (p : Pair V) → Tells k p → p.tag ≢ tag
 
   -- a write is tagged or spent, a read has ended or makes its second trip
   abbrev pub Chooses : (ℕ → Type 0) → ℕ → ℕ → Work V → Choice V → Type 0
@@ -48,18 +49,6 @@ module _ {V : Type 0} (told : List (Option (Pair V))) (q : ℕ) where
   Chooses F s last Read (choice.Tagged p) = ⊥
   Chooses F s last Read (choice.Ended p strikes) = (tag : Tag) × Judged (map tag_of told) q F (OneTrip tag) strikes × LowestIn tag p
   Chooses F s last Read (choice.Second p strikes) = (tag : Tag) × Judged (map tag_of told) q F (SecondTrip tag) strikes × LowestIn tag p
-
-module _ {V : Type 0} (telling : Option (Pair V)) (q k : ℕ) where
-  -- a count raised to that of a member's telling
-  abbrev pub Raises : ℕ → ℕ → Type 0
-  Raises g r =
-      (g ≤ r) × ((p : Pair V) → Member k q → telling ≡ Some p → p.tag.count ≤ r)
-      × ((g ≡ r) ⊎ ((p : Pair V) × Member k q × (telling ≡ Some p) × (p.tag.count ≡ r)))
-
-  -- the telling, if it is a member's and holds the tag
-  abbrev pub Holds : Tag → Option (Pair V) → Type 0
-  Holds tag (Some p) = Member k q × (telling ≡ Some p) × (p.tag ≡ tag)
-  Holds tag None = (p : Pair V) → Member k q → telling ≡ Some p → p.tag ≢ tag
 
 -- whether the choice sends sets
 abbrev pub sends : {V : Type 0} → Choice V → Bool

@@ -1,4 +1,5 @@
 pub mod Changes
 pub mod Choices
 pub mod Effects
+pub mod Stations
 pub mod Tickets

@@ -34,6 +34,11 @@ module _ {V : Type 0} where
   JobOf n m s job (Err e) =
       ((Sound n m → ⊥) × (number e ≡ 1)) ⊎ (Sound n m × ((h : Hand V) → InHand (seen m) s job h → ⊥) × (number e ≡ 9))
 
+  -- the same for a ticket, which comes with its job, or back with the refusal
+  abbrev pub Shown : ℕ → Memory V → Ticket → Result (Ticket × Hand V) HandedBack → Type 0
+  Shown n m t (Ok (u, h)) = (u ≡ t) × JobOf n m t.station t.job (Ok h)
+  Shown n m t (Err b) = (b.ticket ≡ t) × JobOf n m t.station t.job (Err b.refusal)
+
   -- the result of a job that is over
   abbrev pub ResultOf : Stage V → Option (Collected V) → Type 0
   ResultOf stage (Some got) = Over stage got

@@ -1,16 +1,13 @@
 // A station begins a job.
-ghost use Rattle.std.specs.Prelude.{◌≡◌, ◌+◌, ◌<◌, ◌≤◌, length};
-ghost use Rattle.line.specs.Lines.{IsStation, begin_row};
-ghost use Rattle.line.specs.Seen.{seen};
+ghost use Rattle.std.specs.Prelude.{◌≡◌, ◌≤◌, length};
+ghost use Rattle.line.specs.Lines.{begin_row};
 ghost use Rattle.line.specs.Memories.{Called};
 ghost use Rattle.line.specs.Runs.{began};
 ghost use Rattle.line.specs.Steps.{begun, wants};
-ghost use Rattle.calls.specs.Changes.{Becomes, Ends};
+ghost use Rattle.calls.specs.Stations.{Goes, HasPlaces, HasRow, line};
 ghost use Rattle.calls.specs.Tickets.{issued};
 
-use crate::bus::send_all;
-use crate::hands::{hand_at, is_station, take_up};
-use crate::journal::{blank_row, note};
+use crate::hands::{StationMemory, hand_at, is_station};
 use crate::ticket::Ticket;
 use line::check;
 use line::types::{Hand, Memory, Row, RowKind, Stage, Work};
@@ -28,42 +25,39 @@ fn rows_wanted<V: Copy>(work: &Work<V>) -> usize
     }
 }
 
-// The row of a begin.
-fn begin_row<V: Copy>(m: &Memory<'_, V>, station: u8, job: u16, work: &Work<V>) -> Row<V>
-    ensures { result ≡ begin_row (seen m.now) station job work.now }
-{
-    match work {
-        Work::Write(value) => Row {
-            value: *value,
-            ..blank_row(m, RowKind::Write, station, job)
-        },
-        Work::Read => blank_row(m, RowKind::Read, station, job),
+impl<'l, 'm, V: Copy> StationMemory<'l, 'm, V> {
+    // The row of a begin.
+    fn begin_row(&self, job: u16, work: &Work<V>) -> Row<V>
+        ensures { result ≡ begin_row (line self.now) self.now.station job work.now }
+    {
+        match work {
+            Work::Write(value) => Row {
+                value: *value,
+                ..self.blank_row(RowKind::Write, job)
+            },
+            Work::Read => self.blank_row(RowKind::Read, job),
+        }
     }
-}
 
-// The new job gets its row, is taken up, and its queries go to all cabinets.
-fn start<V: Copy>(m: &mut Memory<'_, V>, station: u8, work: Work<V>) -> u16
-    requires line { Ends m.old × IsStation (seen m.old) station }
-    requires rows { (m.old.written < length m.old.journal.now) × (length m.old.journal.now ≤ 4096) }
-    requires places { (length m.old.replicas.now ≤ 16) × (m.old.sent + length m.old.replicas.now ≤ length m.old.bus.now) }
-    ensures { (result ≡ m.old.written) × Becomes m.old (begun (seen m.old) station work) m.new }
-{
-    let job = m.written as u16;
-    let row = begin_row(m, station, job, &work);
-    note(m, row);
-    take_up(
-        m,
-        station,
-        Hand {
+    // The new job gets its row, is taken up, and its queries go to all cabinets.
+    fn start(&mut self, work: Work<V>) -> u16
+        requires rows { HasRow self.old × (length self.old.m.now.journal.now ≤ 4096) }
+        requires places { HasPlaces self.old }
+        ensures { (result ≡ self.old.m.now.written) × Goes self.old (begun (line self.old) self.old.station work) self.new }
+    {
+        let job = self.m.written as u16;
+        let row = self.begin_row(job, &work);
+        self.note(row);
+        self.take_up(Hand {
             job,
             work,
             told: 0,
             stage: Stage::Querying,
             shelved: false,
-        },
-    );
-    send_all(m, station, job, TelegramKind::Query);
-    job
+        });
+        self.send_all(job, TelegramKind::Query);
+        job
+    }
 }
 
 // A station begins a write or a read: a row, a query to each cabinet in turn, and a ticket.
@@ -79,7 +73,7 @@ pub fn begin<V: Copy, S: QuorumSystem>(
     if !is_station(m, station) {
         return Err(Refusal::NoStation);
     }
-    if let Some(_) = hand_at(m, station) {
+    if hand_at(m, station).is_some() {
         return Err(Refusal::HandsFull);
     }
     if m.bus.len() - m.sent < m.replicas.len() {
@@ -88,6 +82,6 @@ pub fn begin<V: Copy, S: QuorumSystem>(
     if free < rows_wanted(&work) {
         return Err(Refusal::BookFull);
     }
-    let job = start(m, station, work);
+    let job = StationMemory { m, station }.start(work);
     Ok(Ticket { station, job })
 }

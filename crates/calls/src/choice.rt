@@ -1,4 +1,5 @@
-// What a station makes of the tellings of a quorum.
+// What a station makes of the tellings of a quorum. It is found before the bus is judged and carried out after,
+// since a refused delivery leaves the memory as found.
 use telegrams::Pair;
 
 #[derive(Clone, Copy)]

@@ -1,161 +1,61 @@
 // Choosing what a quorum's tellings lead to.
-ghost use Rattle.std.specs.Prelude.{◌≡◌, ℕ, ◌<◌, ◌≤◌, map, length, take, Some};
-ghost use Rattle.std.specs.List.{slice_get};
-ghost use Rattle.telegrams.specs.declared.Pair.{Pair};
-ghost use Rattle.quorums.specs.Sets.{Member};
-ghost use Rattle.line.specs.declared.types.Work.TheVariants.{Read};
-ghost use Rattle.line.specs.Lines.{last_of, tag_of};
-ghost use Rattle.line.specs.Seen.{seen};
-ghost use Rattle.calls.specs.Changes.{Placed, told_list};
-ghost use Rattle.calls.specs.Choices.{Chooses, GreatestIn, Holds, LowestIn, LowestOr, Raises, Tells};
+ghost use Rattle.std.specs.Prelude.{map};
+ghost use Rattle.views.specs.Views.{Judged};
+ghost use Rattle.line.specs.Lines.{tag_of};
+ghost use Rattle.calls.specs.Choices.{AllTold, Chooses};
 
 use crate::choice::Choice;
-use crate::hands::last_at;
-use crate::tellings::telling;
-use line::types::{Memory, Work};
+use crate::tellings::Tellings;
+use line::types::Work;
 use quorums::QuorumSystem;
-use quorums::sets::has;
-use telegrams::{Pair, Telegram};
+use telegrams::Pair;
 use views::{Verdict, judge};
 use words::tag::{MAX_COUNT, Tag};
 
-// The greater of a count and that of a member's telling.
-fn raise<V: Copy>(g: u32, telling: Option<Pair<V>>, q: u16, k: u8) -> u32
-    ensures { Raises telling q k g result }
-{
-    match telling {
-        Some(pair) if has(q, k) && pair.tag.count > g => pair.tag.count,
-        _ => g,
-    }
-}
-
-// The greatest of the quorum's counts and the station's own last count.
-fn greatest<V: Copy>(m: &Memory<'_, V>, t: Telegram<V>, pair: Pair<V>, q: u16, last: u32) -> u32
-    requires { Placed m.now t }
-    ensures { GreatestIn (told_list (seen m.now) t pair) q last result }
-{
-    let mut g = last;
-    for k in 0..m.replicas.len() as u8 {
-        g = raise(g, telling(m, t, pair, k), q, k);
-    }
-    g
-}
-
-// A member's telling that holds the tag.
-fn held<V: Copy>(telling: Option<Pair<V>>, q: u16, k: u8, tag: Tag) -> Option<Pair<V>>
-    ensures { Holds telling q k tag result }
-{
-    match telling {
-        Some(pair) if has(q, k) && pair.tag.count == tag.count && pair.tag.owner == tag.owner =>
-            Some(pair),
-        _ => None,
-    }
-}
-
-// What the quorum's lowest-numbered holder of the tag told.
-fn lowest<V: Copy>(
-    m: &Memory<'_, V>,
-    t: Telegram<V>,
-    pair: Pair<V>,
-    q: u16,
-    tag: Tag,
-) -> Option<Pair<V>>
-    requires { Placed m.now t }
-    ensures { LowestOr (told_list (seen m.now) t pair) q tag result }
-{
-    for k in 0..m.replicas.len() as u8 {
-        if let Some(found) = held(telling(m, t, pair, k), q, k, tag) {
-            return Some(found);
-        }
-    }
-    None
-}
-
-// The tag of a telling, and the least of all tags where there is none.
-fn tag_of<V: Copy>(telling: Option<Pair<V>>) -> Tag
-    ensures { result ≡ tag_of telling }
-{
-    match telling {
-        Some(pair) => pair.tag,
-        None => Tag { count: 0, owner: 0 },
-    }
-}
-
-// The tags of tellings, one place for each cabinet.
-fn tags_of<V: Copy>(m: &Memory<'_, V>, t: Telegram<V>, pair: Pair<V>) -> [Tag; 16]
-    requires { Placed m.now t }
-    ensures { take (length m.now.replicas.now) result ≡ map tag_of (told_list (seen m.now) t pair) }
-{
-    let mut tags = [Tag { count: 0, owner: 0 }; 16];
-    for k in 0..m.replicas.len() as u8 {
-        tags[usize::from(k)] = tag_of(telling(m, t, pair, k));
-    }
-    tags
-}
-
-// What the lowest-numbered holder of a tag told that some member told.
-fn holder<V: Copy>(m: &Memory<'_, V>, t: Telegram<V>, pair: Pair<V>, q: u16, tag: Tag) -> Pair<V>
-    requires few { Placed m.now t }
-    requires some { (k : ℕ) × (p : Pair V) × Tells (told_list (seen m.now) t pair) q k p × (p.tag ≡ tag) }
-    ensures { LowestIn (told_list (seen m.now) t pair) q tag result }
-{
-    match lowest(m, t, pair, q, tag) {
-        Some(found) => found,
-        None => unreachable(),
-    }
-}
-
-// What the tellings of a read's quorum lead to, by its judgement.
-fn read<V: Copy, S: QuorumSystem>(
-    system: &S,
-    m: &Memory<'_, V>,
-    t: Telegram<V>,
-    pair: Pair<V>,
-    q: u16,
-) -> Choice<V>
-    requires line { Placed m.now t }
+// The judgement of what a quorum told.
+fn judged<V: Copy, S: QuorumSystem>(system: &S, told: &Tellings<'_, '_, V>, q: u16) -> (Verdict, u8)
     requires picked { S.quorum system.now q }
-    requires tellings { (k : ℕ) → Member k q → (p : Pair V) × (slice_get (told_list (seen m.now) t pair) k ≡ Some (Some p)) }
-    ensures { (s last : ℕ) → Chooses (told_list (seen m.now) t pair) q (S.quorum system.now) s last Read result }
+    requires told { AllTold told.now q }
+    ensures { Judged (map tag_of told.now) q (S.quorum system.now) result.0 result.1 }
 {
-    let tags = tags_of(m, t, pair);
-    let Some((verdict, strikes)) = judge(system, q, &tags[0..m.replicas.len()]) else {
+    let tags = told.tags();
+    let Some(judgement) = judge(system, q, &tags[..usize::from(told.cabinets())]) else {
         unreachable()
     };
-    match verdict {
-        Verdict::OneTrip(tag) => Choice::Ended(holder(m, t, pair, q, tag), strikes),
-        Verdict::SecondTrip(tag) => Choice::Second(holder(m, t, pair, q, tag), strikes),
-    }
+    judgement
 }
 
-// What the tellings of a quorum lead to, this telling among them.
+// What the tellings of a quorum lead to, for a job of a station with its own last count.
 pub(crate) fn choose<V: Copy, S: QuorumSystem>(
     system: &S,
-    m: &Memory<'_, V>,
-    t: Telegram<V>,
-    pair: Pair<V>,
+    told: &Tellings<'_, '_, V>,
     q: u16,
+    station: u8,
+    last: u32,
     work: Work<V>,
 ) -> Choice<V>
-    requires line { Placed m.now t }
     requires picked { S.quorum system.now q }
-    requires tellings { (k : ℕ) → Member k q → (p : Pair V) × (slice_get (told_list (seen m.now) t pair) k ≡ Some (Some p)) }
-    ensures { Chooses (told_list (seen m.now) t pair) q (S.quorum system.now) t.station (last_of (seen m.now) t.station) work result }
+    requires told { AllTold told.now q }
+    ensures { Chooses told.now q (S.quorum system.now) station last work result }
 {
     match work {
         Work::Write(value) => {
-            let g = greatest(m, t, pair, q, last_at(m, t.station));
+            let g = told.greatest(q, last);
             if g >= MAX_COUNT {
                 return Choice::Spent;
             }
-            Choice::Tagged(Pair {
-                tag: Tag {
-                    count: g + 1,
-                    owner: t.station,
-                },
-                value,
-            })
+            let tag = Tag {
+                count: g + 1,
+                owner: station,
+            };
+            Choice::Tagged(Pair { tag, value })
         }
-        Work::Read => read(system, m, t, pair, q),
+        Work::Read => {
+            let (verdict, strikes) = judged(system, told, q);
+            match verdict {
+                Verdict::OneTrip(tag) => Choice::Ended(told.holder(q, tag), strikes),
+                Verdict::SecondTrip(tag) => Choice::Second(told.holder(q, tag), strikes),
+            }
+        }
     }
 }

@@ -1,12 +1,12 @@
 // The jobs in the stations' hands.
-ghost use Rattle.std.specs.Prelude.{◌≡◌, ◌*◌, ◌^◌, ◌<◌, ◌≤◌, length, Some, None, MatchBool, bit_or, slice_index_or, slice_set};
+ghost use Rattle.std.specs.Prelude.{◌≡◌, ◌+◌, ◌-◌, ◌*◌, ◌^◌, length, Some, None, MatchBool, bit_or};
 ghost use Rattle.line.specs.declared.types.Hand.{Hand};
-ghost use Rattle.line.specs.Lines.{IsStation, change, hand_of, hold, idle, last_of, put as put_at};
+ghost use Rattle.line.specs.Lines.{IsStation, change, hand_of, hold, last_of, put as put_at, station_at};
 ghost use Rattle.line.specs.Seen.{seen};
 ghost use Rattle.line.specs.Steps.{freed};
-ghost use Rattle.calls.specs.Changes.{Becomes, Ends, Found};
+ghost use Rattle.calls.specs.Changes.{Ends, Found, HasAnswers};
 
-use crate::places::{at, put};
+use crate::places::put;
 use line::types::{Hand, Memory, Station};
 use telegrams::Pair;
 
@@ -17,12 +17,20 @@ pub(crate) fn is_station<V>(m: &Memory<'_, V>, station: u8) -> bool
     station >= 1 && usize::from(station) <= m.stations.len()
 }
 
+// The station's record. Readers have the memory by &, which StationMemory, with its &mut, cannot hold: so they take the number.
+fn station_at<V: Copy>(m: &Memory<'_, V>, station: u8) -> Station<V>
+    requires { IsStation (seen m.now) station }
+    ensures { result ≡ station_at m.now.stations.now station }
+{
+    m.stations[usize::from(station) - 1]
+}
+
 // The station's job in hand.
 pub(crate) fn hand_at<V: Copy>(m: &Memory<'_, V>, station: u8) -> Option<Hand<V>>
     requires { IsStation (seen m.now) station }
     ensures { result ≡ hand_of (seen m.now) station }
 {
-    at(m.stations, usize::from(station) - 1).hand
+    station_at(m, station).hand
 }
 
 // The station's own last count.
@@ -30,7 +38,15 @@ pub(crate) fn last_at<V: Copy>(m: &Memory<'_, V>, station: u8) -> u32
     requires { IsStation (seen m.now) station }
     ensures { result ≡ last_of (seen m.now) station }
 {
-    at(m.stations, usize::from(station) - 1).last
+    station_at(m, station).last
+}
+
+// The place of the cabinet's answer to the station.
+pub(crate) fn answer_place<V>(m: &Memory<'_, V>, station: u8, cabinet: u8) -> usize
+    requires { IsStation (seen m.now) station × HasAnswers m.now cabinet }
+    ensures { result ≡ (station - 1) * length m.now.replicas.now + cabinet }
+{
+    (usize::from(station) - 1) * m.replicas.len() + usize::from(cabinet)
 }
 
 // The job in hand that a ticket stands for.
@@ -40,78 +56,78 @@ pub(crate) fn in_hand<V: Copy>(m: &Memory<'_, V>, station: u8, job: u16) -> Opti
     if !is_station(m, station) {
         return None;
     }
-    let hand = hand_at(m, station)?;
-    if hand.job == job && !hand.shelved {
-        Some(hand)
-    } else {
-        None
+    hand_at(m, station).filter(|hand| hand.job == job && !hand.shelved)
+}
+
+// A station of the line, with the line's memory.
+#[derive(Drop)]
+pub(crate) struct StationMemory<'l, 'm, V> {
+    pub(crate) m: &'l mut Memory<'m, V>,
+    pub(crate) station: u8,
+    ghost ends: { Ends m.now },
+    ghost there: { IsStation (seen m.now) station },
+}
+
+impl<'l, 'm, V: Copy> StationMemory<'l, 'm, V> {
+    ghost use Rattle.calls.specs.Stations.{Changes, Follows, Goes, line};
+
+    // The station's record becomes this last count and this hand.
+    fn change(&mut self, last: u32, hand: Option<Hand<V>>)
+        ensures { Changes self.old last hand self.new }
+    {
+        let place = usize::from(self.station) - 1;
+        let m = &mut *self.m;
+        put(m.stations, place, Station { last, hand });
     }
-}
 
-// The hand of the station's record at a place.
-fn set_hand<V: Copy>(stations: &mut [Station<V>], i: usize, hand: Option<Hand<V>>)
-    requires { i < length stations.old }
-    ensures { stations.new ≡ slice_set stations.old i (record { last = (slice_index_or stations.old i idle).last; hand = hand }) }
-{
-    stations[i].hand = hand;
-}
+    // The station's hand is another; its own last count stays.
+    fn put_hand(&mut self, hand: Option<Hand<V>>)
+        ensures { Changes self.old (last_of (line self.old) self.old.station) hand self.new }
+    {
+        let last = last_at(self.m, self.station);
+        self.change(last, hand);
+    }
 
-// The own last count of the station's record at a place.
-fn set_last<V: Copy>(stations: &mut [Station<V>], i: usize, last: u32)
-    requires { i < length stations.old }
-    ensures { stations.new ≡ slice_set stations.old i (record { last = last; hand = (slice_index_or stations.old i idle).hand }) }
-{
-    stations[i].last = last;
-}
+    // The station's own last count is another.
+    pub(crate) fn raise_last(&mut self, last: u32)
+        ensures { Goes self.old (change (line self.old) self.old.station last (hand_of (line self.old) self.old.station) ((line self.old).answers self.old.station)) self.new }
+    {
+        let hand = hand_at(self.m, self.station);
+        self.change(last, hand);
+    }
 
-// The station's own last count is another.
-pub(crate) fn raise_last<V: Copy>(m: &mut Memory<'_, V>, station: u8, last: u32)
-    requires { Ends m.old × IsStation (seen m.old) station }
-    ensures { Becomes m.old (change (seen m.old) station last (hand_of (seen m.old) station) ((seen m.old).answers station)) m.new }
-{
-    set_last(m.stations, usize::from(station) - 1, last);
-}
+    // The station's job in hand moves on; the same cabinets have told it.
+    pub(crate) fn hold(&mut self, hand: Hand<V>)
+        requires { Follows self.old hand }
+        ensures { Goes self.old (hold (line self.old) self.old.station hand) self.new }
+    {
+        self.put_hand(Some(hand));
+    }
 
-// The station's job in hand moves on; the same cabinets have told it.
-pub(crate) fn hold<V: Copy>(m: &mut Memory<'_, V>, station: u8, hand: Hand<V>)
-    requires ends { Ends m.old × IsStation (seen m.old) station }
-    requires same { (h : Hand V) × (hand_of (seen m.old) station ≡ Some h) × (h.told ≡ hand.told) }
-    ensures { Becomes m.old (hold (seen m.old) station hand) m.new }
-{
-    set_hand(m.stations, usize::from(station) - 1, Some(hand));
-}
+    // The station's hand is free.
+    pub(crate) fn free(&mut self)
+        ensures { Goes self.old (freed (line self.old) self.old.station) self.new }
+    {
+        self.put_hand(None);
+    }
 
-// The station's hand is free.
-pub(crate) fn free<V: Copy>(m: &mut Memory<'_, V>, station: u8)
-    requires { Ends m.old × IsStation (seen m.old) station }
-    ensures { Becomes m.old (freed (seen m.old) station) m.new }
-{
-    set_hand(m.stations, usize::from(station) - 1, None);
-}
+    // The station takes up a new job, which no cabinet has told yet.
+    pub(crate) fn take_up(&mut self, hand: Hand<V>)
+        requires { hand.told ≡ 0 }
+        ensures { Goes self.old (change (line self.old) self.old.station (last_of (line self.old) self.old.station) (Some hand) (λ c. None)) self.new }
+    {
+        self.put_hand(Some(hand));
+    }
 
-// The station takes up a new job, which no cabinet has told yet.
-pub(crate) fn take_up<V: Copy>(m: &mut Memory<'_, V>, station: u8, hand: Hand<V>)
-    requires { Ends m.old × IsStation (seen m.old) station × (hand.told ≡ 0) }
-    ensures { Becomes m.old (change (seen m.old) station (last_of (seen m.old) station) (Some hand) (λ c. None)) m.new }
-{
-    set_hand(m.stations, usize::from(station) - 1, Some(hand));
-}
-
-// One more cabinet has told the station's job in hand.
-pub(crate) fn tell<V: Copy>(
-    m: &mut Memory<'_, V>,
-    station: u8,
-    cabinet: u8,
-    hand: Hand<V>,
-    pair: Pair<V>,
-)
-    requires line { Ends m.old × IsStation (seen m.old) station × (length m.old.stations.now ≤ 32) }
-    requires wide { (cabinet < length m.old.replicas.now) × (length m.old.replicas.now ≤ 16) × (length m.old.answers.now ≡ length m.old.replicas.now * length m.old.stations.now) }
-    requires told { (h : Hand V) × (hand_of (seen m.old) station ≡ Some h) × (hand.told ≡ bit_or h.told (2 ^ cabinet)) }
-    ensures { Becomes m.old (change (seen m.old) station (last_of (seen m.old) station) (Some hand) (put_at ((seen m.old).answers station) cabinet (Some pair))) m.new }
-{
-    let row = usize::from(station) - 1;
-    let n = m.replicas.len();
-    put(m.answers, row * n + usize::from(cabinet), pair);
-    set_hand(m.stations, row, Some(hand));
+    // One more cabinet has told the station's job in hand.
+    pub(crate) fn tell(&mut self, cabinet: u8, hand: Hand<V>, pair: Pair<V>)
+        requires wide { HasAnswers self.old.m.now cabinet }
+        requires told { (h : Hand V) × (hand_of (line self.old) self.old.station ≡ Some h) × (hand.told ≡ bit_or h.told (2 ^ cabinet)) }
+        ensures { Goes self.old (change (line self.old) self.old.station (last_of (line self.old) self.old.station) (Some hand) (put_at ((line self.old).answers self.old.station) cabinet (Some pair))) self.new }
+    {
+        let place = answer_place(self.m, self.station, cabinet);
+        let m = &mut *self.m;
+        put(m.answers, place, pair);
+        self.put_hand(Some(hand));
+    }
 }

@@ -1,15 +1,12 @@
 // What a ticket is good for: collect, give up and shelve use it up, claim gives it back.
-ghost use Rattle.std.specs.Prelude.{◌<◌, length};
-ghost use Rattle.line.specs.Lines.{IsStation, given_row, note};
-ghost use Rattle.line.specs.Seen.{seen};
+ghost use Rattle.line.specs.Lines.{given_row, note};
 ghost use Rattle.line.specs.Memories.{Called};
 ghost use Rattle.line.specs.Runs.{claimed, collected, gave_up, shelved};
 ghost use Rattle.line.specs.Steps.{freed};
-ghost use Rattle.calls.specs.Changes.{Becomes, Ends};
-ghost use Rattle.calls.specs.Tickets.{JobOf, Returned, ResultOf, issued, plain};
+ghost use Rattle.calls.specs.Stations.{Goes, HasRow, line};
+ghost use Rattle.calls.specs.Tickets.{JobOf, Returned, ResultOf, Shown, issued, plain};
 
-use crate::hands::{free, hand_at, hold, in_hand, is_station};
-use crate::journal::{blank_row, note};
+use crate::hands::{StationMemory, hand_at, in_hand, is_station};
 use crate::ticket::{HandedBack, Ticket};
 use line::check;
 use line::types::{Collected, Hand, Memory, RowKind, Stage};
@@ -26,9 +23,20 @@ fn job_of<V: Copy, S: QuorumSystem>(
     ensures { JobOf (S.size system.now) m.now station job result }
 {
     check(system, m)?;
-    match in_hand(m, station, job) {
-        Some(hand) => Ok(hand),
-        None => Err(Refusal::StrangeTicket),
+    in_hand(m, station, job).ok_or(Refusal::StrangeTicket)
+}
+
+// A ticket with the job that it stands for, or the ticket handed back.
+fn shown<V: Copy, S: QuorumSystem>(
+    system: &S,
+    m: &Memory<'_, V>,
+    ticket: Ticket,
+) -> Result<(Ticket, Hand<V>), HandedBack>
+    ensures { Shown (S.size system.now) m.now ticket result }
+{
+    match job_of(system, m, ticket.station, ticket.job) {
+        Ok(hand) => Ok((ticket, hand)),
+        Err(refusal) => Err(HandedBack { refusal, ticket }),
     }
 }
 
@@ -37,8 +45,7 @@ fn result_of<V: Copy>(stage: &Stage<V>) -> Option<Collected<V>>
     ensures { ResultOf stage.now result }
 {
     match stage {
-        Stage::Querying => None,
-        Stage::Setting { .. } => None,
+        Stage::Querying | Stage::Setting { .. } => None,
         Stage::Ended { pair, trips, .. } => Some(Collected::Got(*pair, *trips)),
         Stage::Spent => Some(Collected::Spent),
     }
@@ -53,19 +60,12 @@ pub fn shelve<V: Copy, S: QuorumSystem>(
     ensures called { Called (S.size system.now) (S.quorum system.now) (shelved ticket.station ticket.job (plain result)) m.old m.new }
     ensures returned { Returned ticket result }
 {
-    let hand = match job_of(system, m, ticket.station, ticket.job) {
-        Ok(hand) => hand,
-        Err(refusal) => return Err(HandedBack { refusal, ticket }),
-    };
+    let (ticket, hand) = shown(system, m, ticket)?;
     let Ticket { station, job: _ } = ticket;
-    hold(
-        m,
-        station,
-        Hand {
-            shelved: true,
-            ..hand
-        },
-    );
+    StationMemory { m, station }.hold(Hand {
+        shelved: true,
+        ..hand
+    });
     Ok(())
 }
 
@@ -81,23 +81,17 @@ pub fn claim<V: Copy, S: QuorumSystem>(
     if !is_station(m, station) {
         return Err(Refusal::NoStation);
     }
-    match hand_at(m, station) {
-        Some(hand) if hand.shelved => {
-            hold(
-                m,
-                station,
-                Hand {
-                    shelved: false,
-                    ..hand
-                },
-            );
-            Ok(Ticket {
-                station,
-                job: hand.job,
-            })
-        }
-        _ => Err(Refusal::StrangeTicket),
-    }
+    let Some(hand) = hand_at(m, station).filter(|hand| hand.shelved) else {
+        return Err(Refusal::StrangeTicket);
+    };
+    StationMemory { m, station }.hold(Hand {
+        shelved: false,
+        ..hand
+    });
+    Ok(Ticket {
+        station,
+        job: hand.job,
+    })
 }
 
 // The result of a job that is over, whose station is free then.
@@ -109,10 +103,7 @@ pub fn collect<V: Copy, S: QuorumSystem>(
     ensures called { Called (S.size system.now) (S.quorum system.now) (collected ticket.station ticket.job (plain result)) m.old m.new }
     ensures returned { Returned ticket result }
 {
-    let hand = match job_of(system, m, ticket.station, ticket.job) {
-        Ok(hand) => hand,
-        Err(refusal) => return Err(HandedBack { refusal, ticket }),
-    };
+    let (ticket, hand) = shown(system, m, ticket)?;
     let Some(got) = result_of(&hand.stage) else {
         return Err(HandedBack {
             refusal: Refusal::NotOver,
@@ -120,18 +111,20 @@ pub fn collect<V: Copy, S: QuorumSystem>(
         });
     };
     let Ticket { station, job: _ } = ticket;
-    free(m, station);
+    StationMemory { m, station }.free();
     Ok(got)
 }
 
-// An unfinished job gets its row, and its station is free.
-fn abandon<V: Copy>(m: &mut Memory<'_, V>, station: u8, job: u16)
-    requires { Ends m.old × IsStation (seen m.old) station × (m.old.written < length m.old.journal.now) }
-    ensures { Becomes m.old (freed (note (seen m.old) (given_row (seen m.old) station job)) station) m.new }
-{
-    let row = blank_row(m, RowKind::Given, station, job);
-    note(m, row);
-    free(m, station);
+impl<'l, 'm, V: Copy> StationMemory<'l, 'm, V> {
+    // An unfinished job gets its row, and its station is free.
+    fn abandon(&mut self, job: u16)
+        requires { HasRow self.old }
+        ensures { Goes self.old (freed (note (line self.old) (given_row (line self.old) self.old.station job)) self.old.station) self.new }
+    {
+        let row = self.blank_row(RowKind::Given, job);
+        self.note(row);
+        self.free();
+    }
 }
 
 // Frees the station and discards any result; an unfinished job gets a row. The ticket is used up, refused or not.
@@ -144,10 +137,11 @@ pub fn give_up<V: Copy, S: QuorumSystem>(
 {
     let Ticket { station, job } = ticket;
     let hand = job_of(system, m, station, job)?;
-    if let Some(_) = result_of(&hand.stage) {
-        free(m, station);
-        return Ok(());
+    let mut at = StationMemory { m, station };
+    if result_of(&hand.stage).is_some() {
+        at.free();
+    } else {
+        at.abandon(job);
     }
-    abandon(m, station, job);
     Ok(())
 }

@@ -1,37 +1,62 @@
 // The journal: rows join its end.
-ghost use Rattle.std.specs.Prelude.{◌≡◌, ◌<◌, length};
+ghost use Rattle.std.specs.Prelude.{◌≡◌};
 ghost use Rattle.line.specs.Lines.{first_tag, note};
-ghost use Rattle.line.specs.Seen.{seen};
-ghost use Rattle.calls.specs.Changes.{Becomes, Ends};
+ghost use Rattle.calls.specs.Stations.{Goes, HasRow, line};
 
-use line::types::{Memory, Row, RowKind};
+use crate::hands::StationMemory;
+use crate::places::append;
+use line::types::{Row, RowKind};
+use telegrams::Pair;
 use words::tag::Tag;
 
-// A row joins the journal.
-pub(crate) fn note<V: Copy>(m: &mut Memory<'_, V>, row: Row<V>)
-    requires { Ends m.old × (m.old.written < length m.old.journal.now) }
-    ensures { Becomes m.old (note (seen m.old) row) m.new }
-{
-    let end = m.written;
-    m.journal[end] = row;
-    m.written = end + 1;
-}
+impl<'l, 'm, V: Copy> StationMemory<'l, 'm, V> {
+    // A row joins the journal.
+    pub(crate) fn note(&mut self, row: Row<V>)
+        requires { HasRow self.old }
+        ensures { Goes self.old (note (line self.old) row) self.new }
+    {
+        let m = &mut *self.m;
+        append(m.journal, &mut m.written, row);
+    }
 
-// A row of a kind with nothing but its station and job: the other fields hold the first tag, 0 and the first value.
-pub(crate) fn blank_row<V: Copy>(m: &Memory<'_, V>, kind: RowKind, station: u8, job: u16) -> Row<V>
-    ensures { result ≡ record { kind = kind; station = station; job = job; tag = first_tag (seen m.now); trips = 0; strikes = 0; value = m.now.first.value } }
-{
-    let tag = Tag {
-        count: m.first.count,
-        owner: 0,
-    };
-    Row {
-        kind,
-        station,
-        job,
-        tag,
-        trips: 0,
-        strikes: 0,
-        value: m.first.value,
+    // A row of a kind with nothing but the station and a job: the other fields hold the first tag, 0 and the first value.
+    pub(crate) fn blank_row(&self, kind: RowKind, job: u16) -> Row<V>
+        ensures { result ≡ record { kind = kind; station = self.now.station; job = job; tag = first_tag (line self.now); trips = 0; strikes = 0; value = self.now.m.now.first.value } }
+    {
+        let first = self.m.first;
+        Row {
+            kind,
+            station: self.station,
+            job,
+            tag: Tag {
+                count: first.count,
+                owner: 0,
+            },
+            trips: 0,
+            strikes: 0,
+            value: first.value,
+        }
+    }
+
+    // A row of a kind with the station, a job and its pair.
+    pub(crate) fn pair_row(
+        &self,
+        kind: RowKind,
+        job: u16,
+        pair: Pair<V>,
+        trips: u8,
+        strikes: u8,
+    ) -> Row<V>
+        ensures { result ≡ record { kind = kind; station = self.now.station; job = job; tag = pair.tag; trips = trips; strikes = strikes; value = pair.value } }
+    {
+        Row {
+            kind,
+            station: self.station,
+            job,
+            tag: pair.tag,
+            trips,
+            strikes,
+            value: pair.value,
+        }
     }
 }

@@ -1,4 +1,6 @@
 // The calls of a line: opening it, and what stations and the bus then do.
+// Each call takes the system and the memory as two parameters: a struct of both would say of them what each call has to judge
+// for itself.
 #![tactic(auto)]
 
 mod applying;

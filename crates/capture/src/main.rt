@@ -4,11 +4,12 @@
 mod scan;
 
 use anyhow::anyhow;
-use scan::{Item, scan};
+use scan::scan;
 use std::alloc::{AllocError, Global};
 use std::env;
-use std::fmt::Display;
+use std::fmt::{Display, Write};
 use std::io::Read;
+use std::str::FromStr;
 use words::bytes::be_words;
 use words::mask::Mask;
 use words::speed::Speed;
@@ -16,57 +17,64 @@ use words::value::Value;
 
 const USAGE: &str = "usage: capture mask|speed < CAPTURE";
 
+// The kind of the values in a capture.
+#[derive(Clone, Copy, PartialEq, Eq, Debug)]
+enum ValueKind {
+    Mask,
+    Speed,
+}
+
+impl FromStr for ValueKind {
+    type Err = anyhow::Error;
+
+    fn from_str(name: &str) -> anyhow::Result<Self> {
+        match name {
+            "mask" => Ok(ValueKind::Mask),
+            "speed" => Ok(ValueKind::Speed),
+            _ => Err(anyhow!(USAGE)),
+        }
+    }
+}
+
 // A line for each item, one for bytes left over, and the counts.
 fn report<V: Value + Display>(heap: Global, bytes: &[u8]) -> Result<String, AllocError> {
     let words = be_words(heap, bytes)?;
     let items = scan::<V>(heap, words.as_slice())?;
     let mut text = String::new(heap);
-    let mut telegrams = 0usize;
-    let mut refused = 0usize;
     for item in items.iter() {
         match item {
-            Item::Found(_, _) => telegrams = telegrams.saturating_add(1),
-            Item::Refused(_) => refused = refused.saturating_add(1),
+            Ok(found) => writeln!(text, "{found}")?,
+            Err(refusal) => writeln!(text, "refused {refusal}")?,
         }
-        let line = format!(in heap; "{item}\n")?;
-        text.push_str(line.as_str())?;
     }
     let left = bytes.len() % 4;
     if left > 0 {
-        let line = format!(in heap; "trailing {left}\n")?;
-        text.push_str(line.as_str())?;
+        writeln!(text, "trailing {left}")?;
     }
-    let line = format!(in heap; "{telegrams} telegrams, {refused} refused\n")?;
-    text.push_str(line.as_str())?;
+    let telegrams = items.iter().filter(|item| item.is_ok()).count();
+    let refused = items.iter().filter(|item| item.is_err()).count();
+    writeln!(text, "{telegrams} telegrams, {refused} refused")?;
     Ok(text)
 }
 
-// Whether the one argument names masks; otherwise it names speeds.
-fn masks(rt: &HostRuntime) -> anyhow::Result<bool> {
+// The kind that the one argument names.
+fn value_kind(rt: &HostRuntime) -> anyhow::Result<ValueKind> {
     let mut args = env::args(rt)?;
     let _program = args.next();
-    let Some(kind) = args.next() else {
+    let (Some(name), None) = (args.next(), args.next()) else {
         return Err(anyhow!(USAGE));
     };
-    if args.next().is_some() {
-        return Err(anyhow!(USAGE));
-    }
-    match kind.as_str() {
-        "mask" => Ok(true),
-        "speed" => Ok(false),
-        _ => Err(anyhow!(USAGE)),
-    }
+    name.as_str().parse()
 }
 
 fn run(rt: &HostRuntime) -> anyhow::Result<()> {
     let heap = rt.alloc();
-    let masks = masks(rt)?;
+    let kind = value_kind(rt)?;
     let mut bytes = Vec::new(heap);
     rt.stdin().read_to_end(&mut bytes)?;
-    let text = if masks {
-        report::<Mask>(heap, bytes.as_slice())?
-    } else {
-        report::<Speed>(heap, bytes.as_slice())?
+    let text = match kind {
+        ValueKind::Mask => report::<Mask>(heap, bytes.as_slice())?,
+        ValueKind::Speed => report::<Speed>(heap, bytes.as_slice())?,
     };
     print!(rt; "{text}")?;
     Ok(())

@@ -6,18 +6,18 @@ use Rattle.line.specs.declared.types.Memory.{Memory}
 use Rattle.line.specs.declared.types.Stage.TheVariants.{Querying}
 use Rattle.line.specs.declared.types.Station.{Station}
 use Rattle.line.specs.declared.types.Work.{Work}
-use Rattle.line.specs.Lines.{IsStation, View, hand_of, hold, last_of, station_at}
+use Rattle.line.specs.Lines.{IsStation, View, hand_of, hold, last_of}
 use Rattle.line.specs.Seen.{seen}
-use Rattle.line.specs.Memories.{Called, Lends, Sound, refusal_of}
+use Rattle.line.specs.Memories.{Called, Lends, Sound}
 use Rattle.line.specs.Runs.{Event, Step, began, claimed, collected, shelved}
 use Rattle.line.specs.Steps.{InHand, begun, with_shelf}
-use Rattle.line.proofs.Excludes.{here, still}
-use Rattle.line.proofs.Keeps.{none_some}
+use Rattle.line.proofs.Moves.{station_still}
+use Rattle.line.proofs.Shapes.{hand_mine}
 use Rattle.line.proofs.Sounds.{stays_sound}
 
 -- an acceptance is no refusal
 taken : {R A : Type 0} (x : R) (e : Refusal) → ◌≡◌ {A = Result R Refusal} (Ok x) (Err e) → A
-taken x e is = none_some e (ap refusal_of is)
+taken x e is = cc
 
 -- the two numbers of an answer
 abbrev station_in : Result (ℕ × ℕ) Refusal → ℕ
@@ -39,12 +39,12 @@ module _ {V : Type 0} (n : ℕ) (F : ℕ → Type 0) (m after : Memory V) where
   handed e s t job h v sound step lends line is stations own mine free =
       let st : Station V = record { last = last_of (seen m) s; hand = Some h } in
       let now : (seen after).stations ≡ set (seen m).stations (s - 1) st = ap (λ (w : View V). w.stations) is ∙ stations in
-      let in_line : (1 ≤ s) × (s ≤ length (seen after).stations) = subst (λ (xs : List (Station V)). (1 ≤ s) × (s ≤ length xs)) (sym now) (still (seen m) s line st) in
-      let held : hand_of (seen after) s ≡ Some h = ap (λ (xs : List (Station V)). (station_at xs s).hand) now ∙ ap (λ (x : Station V). x.hand) (here (seen m) s line st) in
+      let in_line : (1 ≤ s) × (s ≤ length (seen after).stations) = subst (λ (xs : List (Station V)). (1 ≤ s) × (s ≤ length xs)) (sym now) (line.0, station_still (seen m).stations s line.0 st line.1) in
+      let held : hand_of (seen after) s ≡ Some h = hand_mine (seen m) (seen after) s line st now in
       (stays_sound n F e m after sound step lends, (h, subst (λ (k : ℕ). InHand (seen after) k job h) (sym own) (in_line, held, mine, free)))
 
   pub begun_good : (s t job : ℕ) (work : Work V) → Called n F (began s work (Ok (t, job))) m after → Good n after t job
-  begun_good s t job work (inl (bad, (x, is, one), same)) = none_some x is
+  begun_good s t job work (inl (bad, (x, is, one), same)) = cc is
   begun_good s t job work (inr (sound, step, lends, keeps)) =
       let hand : Hand V = record { job = length (seen m).journal; work = work; told = 0; stage = Querying; shelved = false } in
       ⊎_elim (λ a. taken _ _ a.1.1)
@@ -55,7 +55,7 @@ module _ {V : Type 0} (n : ℕ) (F : ℕ → Type 0) (m after : Memory V) where
       step
 
   pub claimed_good : (s t job : ℕ) → Called n F (claimed s (Ok (t, job))) m after → Good n after t job
-  claimed_good s t job (inl (bad, (x, is, one), same)) = none_some x is
+  claimed_good s t job (inl (bad, (x, is, one), same)) = cc is
   claimed_good s t job (inr (sound, step, lends, keeps)) =
       ⊎_elim (λ a. taken _ _ a.1.1)
       (⊎_elim (λ a. taken _ _ a.1.1.1)

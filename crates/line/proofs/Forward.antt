@@ -1,19 +1,16 @@
 -- A job in hand only moves forward: querying, then setting one pair, then ended with that pair.
 use Rattle.std.proofs.Common.{◌≡◌, ℕ, ◌-◌, ◌≤◌, ◌⊎◌, List, length, set, Some, Option, sym, refl, ap, ◌∙◌, subst, inl, inr, ⊎_elim, arith}
 use Rattle.std.specs.List.{slice_get}
-use Rattle.std.proofs.lemmas.List.{get_or-set_other, get_or-set_same}
-use Rattle.std.proofs.lemmas.Bool.{cases_eq}
+use Rattle.std.proofs.lemmas.Option.{same_Some, slice_get_within}
 use Rattle.telegrams.specs.declared.Pair.{Pair}
 use Rattle.line.specs.declared.types.Hand.{Hand}
 use Rattle.line.specs.declared.types.Row.{Row}
 use Rattle.line.specs.declared.types.Stage.{Stage}
 use Rattle.line.specs.declared.types.Stage.TheVariants.{Querying, Setting, Ended, Spent}
 use Rattle.line.specs.declared.types.Station.{Station}
-use Rattle.line.specs.Lines.{IsStation, View, hand_of, idle, station_at}
+use Rattle.line.specs.Lines.{IsStation, View, hand_of, station_at}
 use Rattle.line.specs.Runs.{Event, Step}
-use Rattle.line.proofs.Keeps.{none_some, some_same}
-use Rattle.line.proofs.Moves.{nth_below}
-use Rattle.line.proofs.Shapes.{Like, Noted, Quiet, Same, Shape, begun_row, ended_row_of, freed, given_row_of, kept, like_same, noted, quiet, spent_row_of, step_outcome, still, tagged_row_of, took_row_of, trip}
+use Rattle.line.proofs.Shapes.{Like, Noted, Quiet, Same, Shape, begun_row, ended_row_of, freed, given_row_of, hand_cases, kept, like_same, noted, quiet, spent_row_of, step_outcome, still, tagged_row_of, took_row_of, trip}
 
 module _ {V : Type 0} where
   -- setting the pair, or ended with it
@@ -42,6 +39,12 @@ module _ {V : Type 0} where
 
   carrying_on : (p u : Pair V) → p ≡ u → (b : Stage V) → Carrying u b → Carrying p b
   carrying_on p u e b c = subst (λ (x : Pair V). Carrying x b) (sym e) c
+
+  pub one_carried : (st : Stage V) (p u : Pair V) → Carrying p st → Carrying u st → p ≡ u
+  one_carried Querying p u c d = absurd c
+  one_carried (Setting x strikes took) p u c d = c ∙ sym d
+  one_carried (Ended x trips strikes) p u c d = c ∙ sym d
+  one_carried Spent p u c d = absurd c
 
   pub carrying_lasts : (p : Pair V) → Lasting (Carrying p)
   carrying_lasts p Querying b c f = absurd c
@@ -77,33 +80,32 @@ module _ {V : Type 0} where
     from_querying a b e = subst (λ (z : Stage V). Forward z b) (sym e) tt
 
     became : (s : ℕ) (hand : Option (Hand V)) (k g : Hand V) → hand ≡ Some g → hand ≡ Some k → Came v s g → Came v s k
-    became s hand k g e f came = subst (Came v s) (some_same (sym e ∙ f)) came
+    became s hand k g e f came = subst (Came v s) (same_Some g k (sym e ∙ f)) came
 
     quiet_came : (s : ℕ) (hand : Option (Hand V)) → Quiet v s hand → (k : Hand V) → hand ≡ Some k → Came v s k
-    quiet_came s hand (freed h held got over is) k e = none_some k (sym is ∙ e)
+    quiet_came s hand (freed h held got over is) k e = cc
     quiet_came s hand (kept h g same is like) k e = became s hand k g is e (onward s h g same (forward_like h.stage g.stage like))
     quiet_came s hand (trip h g same is work stage p strikes next) k e = became s hand k g is e (onward s h g same (from_querying h.stage g.stage stage))
 
     noted_came : (e : Event V) (s : ℕ) (hand : Option (Hand V)) (row : Row V) → Noted v e s hand row → (k : Hand V) → hand ≡ Some k → Came v s k
     noted_came e s hand row (begun_row work g none free event is job works stage rows) k f = became s hand k g is f (inl job)
-    noted_came e s hand row (tagged_row_of h g same is x work stage p next trips rows) k f = became s hand k g is f (onward s h g same (from_querying h.stage g.stage stage))
-    noted_came e s hand row (ended_row_of h g same is work stage p strikes next rows) k f = became s hand k g is f (onward s h g same (from_querying h.stage g.stage stage))
+    noted_came e s hand row (tagged_row_of h g same is x work stage p next trips rows) k f =
+        became s hand k g is f (onward s h g same (from_querying h.stage g.stage stage))
+    noted_came e s hand row (ended_row_of h g same is work stage p strikes next rows) k f =
+        became s hand k g is f (onward s h g same (from_querying h.stage g.stage stage))
     noted_came e s hand row (took_row_of h g same is p strikes took stage next rows) k f =
         became s hand k g is f (onward s h g same (subst (λ (z : Stage V). Forward z g.stage) (sym stage) (subst (Carrying p) (sym next) refl)))
-    noted_came e s hand row (spent_row_of h g same is x work stage next rows) k f = became s hand k g is f (onward s h g same (from_querying h.stage g.stage stage))
-    noted_came e s hand row (given_row_of h held unfinished is rows) k f = none_some k (sym is ∙ f)
+    noted_came e s hand row (spent_row_of h g same is x work stage next rows) k f =
+        became s hand k g is f (onward s h g same (from_querying h.stage g.stage stage))
+    noted_came e s hand row (given_row_of h held unfinished is rows) k f = cc
 
     -- one station's record changes
-    one_hand : (s : ℕ) → IsStation v s → (st : Station V) → ((k : Hand V) → st.hand ≡ Some k → Came v s k) → (w : View V) → w.stations ≡ set v.stations (s - 1) st → AllCame v w
+    one_hand : (s : ℕ) → IsStation v s → (st : Station V) → ((k : Hand V) → st.hand ≡ Some k → Came v s k) → (w : View V)
+        → w.stations ≡ set v.stations (s - 1) st → AllCame v w
     one_hand s line st mine w is r k one e =
-        ⊎_elim
-        (λ at.
-        let here = ap (λ (xs : List (Station V)). (station_at xs s).hand) is ∙ ap (λ (z : Station V). z.hand) (get_or-set_same v.stations (s - 1) st idle (omega (arith, line.0, line.1))) in
-        subst (λ (z : ℕ). Came v z k) (sym at) (mine k (sym here ∙ subst (λ (z : ℕ). hand_of w z ≡ Some k) at e)))
-        (λ ne.
-        let there = ap (λ (xs : List (Station V)). (station_at xs r).hand) is ∙ ap (λ (z : Station V). z.hand) (get_or-set_other v.stations (s - 1) (r - 1) st idle (λ f. ne (omega (arith, line.0)))) in
-        inr (k, sym there ∙ e, refl, forward_like k.stage k.stage (like_same k.stage)))
-        (cases_eq r s)
+        ⊎_elim (λ x. subst (λ (z : ℕ). Came v z k) (sym x.0) (mine k x.1))
+        (λ old. inr (k, old.1, refl, forward_like k.stage k.stage (like_same k.stage)))
+        (hand_cases v w s line st is r k one e)
 
     shape_came : (e : Event V) (w : View V) → Shape v e w → AllCame v w
     shape_came e w (still stations journal) s k one f =
@@ -117,12 +119,13 @@ module _ {V : Type 0} where
     pub begun : slice_get v.journal job ≡ Some row
     pub stage : (k : Hand V) → hand_of v s ≡ Some k → k.job ≡ job → P k.stage
 
-  pub step_since : (P : Stage V → Type 0) → Lasting P → (F : ℕ → Type 0) (v : View V) (e : Event V) (w : View V) → Step F v e w → ((i : ℕ) (row : Row V) → slice_get v.journal i ≡ Some row → slice_get w.journal i ≡ Some row) → (s job : ℕ) → 1 ≤ s → Since P v s job → Since P w s job
+  pub step_since : (P : Stage V → Type 0) → Lasting P → (F : ℕ → Type 0) (v : View V) (e : Event V) (w : View V) → Step F v e w
+      → ((i : ℕ) (row : Row V) → slice_get v.journal i ≡ Some row → slice_get w.journal i ≡ Some row) → (s job : ℕ) → 1 ≤ s → Since P v s job → Since P w s job
   step_since P lasts F v e w step grows s job one since = record {
     row = since.row;
     begun = grows job since.row since.begun;
     stage = λ k held is.
-        ⊎_elim (λ new. absurd (omega (arith, nth_below v.journal job _ since.begun)))
+        ⊎_elim (λ new. absurd (omega (arith, slice_get_within v.journal job _ since.begun)))
         (λ old. lasts old.0.stage k.stage (since.stage old.0 old.1 (old.2 ∙ is)) old.3)
         (shape_came v e w (step_outcome v F e w step).shape s k one held);
   }

@@ -1,6 +1,6 @@
 -- What holds of a line after every call, from which the order of jobs follows.
-use Rattle.std.proofs.Common.{◌≡◌, ℕ, ◌<◌, ◌≤◌, ◌⊎◌, List, [], ◌∷◌, Some}
-use Rattle.std.specs.List.{slice_get}
+use Rattle.std.proofs.Common.{◌≡◌, ℕ, ◌<◌, ◌≤◌, ◌⊎◌, [], Some, None}
+use Rattle.std.specs.List.{Contains, slice_get}
 use Rattle.words.specs.declared.tag.Tag.{Tag}
 use Rattle.words.specs.Tags.{Before, Upto}
 use Rattle.telegrams.specs.declared.Pair.{Pair}
@@ -14,11 +14,6 @@ use Rattle.line.specs.declared.types.Stage.TheVariants.{Querying, Setting, Ended
 use Rattle.line.specs.declared.types.Work.{Work}
 use Rattle.line.specs.declared.types.Work.TheVariants.{Write, Read}
 use Rattle.line.specs.Lines.{View, begin_row, ended_row, first_pair, hand_of, last_of, replica, tagged_row}
-
--- it stands in the list
-abbrev pub Among : {X : Type 0} → List X → X → Type 0
-Among [] x = ⊥
-Among (y ∷ ys) x = (y ≡ x) ⊎ Among ys x
 
 module _ {V : Type 0} (v : View V) where
   -- rows of the journal
@@ -86,32 +81,50 @@ module _ {V : Type 0} (v : View V) where
   -- nothing of cabinet c is earlier than the pair that row i ended with, where it was told to a later job
   pub record Guard (i : ℕ) (p : Pair V) (c : ℕ) : Type 0 where
     pub stored : Upto p.tag (replica v c).tag
-    pub under_way : (t : Telegram V) (u : Pair V) → Among v.bus t → t.kind ≡ Told u → t.cabinet ≡ c → i < t.job → Upto p.tag u.tag
+    pub under_way : (t : Telegram V) (u : Pair V) → Contains v.bus t → t.kind ≡ Told u → t.cabinet ≡ c → i < t.job → Upto p.tag u.tag
     pub kept : (s : ℕ) (h : Hand V) (u : Pair V) → 1 ≤ s → hand_of v s ≡ Some h → v.answers s c ≡ Some u → i < h.job → Upto p.tag u.tag
 
+  -- of a tagged row, and of an ended one: the first pair and the journal tell it
   pub record TaggedFits (k s job : ℕ) (p : Pair V) : Type 0 where
     pub owner : p.tag.owner ≡ s
     pub station : 1 ≤ s
     pub above_first : v.first.count < p.tag.count
-    pub upto_last : p.tag.count ≤ last_of v s
     pub begun : Begun s job (Write p.value)
     pub above_ended : (i r j : ℕ) (u : Pair V) → EndedRow i r j u → i < job → Before u.tag p.tag
     pub rises : (i j : ℕ) (u : Pair V) → i < k → TaggedRow i s j u → u.tag.count < p.tag.count
 
-  pub record EndedFits (F : ℕ → Type 0) (i s job : ℕ) (p : Pair V) : Type 0 where
+  pub record EndedFits (F : ℕ → Type 0) (s job : ℕ) (p : Pair V) : Type 0 where
     pub work : Work V
     pub begun : Begun s job work
     pub known : Known p
     pub earned : Earned s job work p
     pub quorum : ℕ
     pub is_quorum : F quorum
-    pub guards : (c : ℕ) → Member c quorum → Guard i p c
 
-  pub record Inv (F : ℕ → Type 0) : Type 0 where
-    pub replicas : (c : ℕ) → Known (replica v c)
-    pub bus : (t : Telegram V) → Among v.bus t → Sound t
-    pub answers : (s c : ℕ) (p : Pair V) → 1 ≤ s → v.answers s c ≡ Some p → Known p × Upto p.tag (replica v c).tag
-    pub hands : (s : ℕ) (h : Hand V) → 1 ≤ s → hand_of v s ≡ Some h → Begun s h.job h.work × StageFits s h h.stage
+-- the line's first pair and journal alone
+abbrev pub page : {V : Type 0} → View V → View V
+page v = record {
+  first = v.first;
+  replicas = [];
+  stations = [];
+  answers = λ s c. None;
+  bus = [];
+  journal = v.journal;
+  bus_places = 0;
+  journal_places = 0;
+}
+
+module _ {V : Type 0} (v : View V) (F : ℕ → Type 0) where
+  pub record Ending (i s job : ℕ) (p : Pair V) : Type 0 where
+    pub fits : EndedFits (page v) F s job p
+    pub guards : (c : ℕ) → Member c fits.quorum → Guard v i p c
+
+  pub record Inv : Type 0 where
+    pub replicas : (c : ℕ) → Known v (replica v c)
+    pub bus : (t : Telegram V) → Contains v.bus t → Sound v t
+    pub answers : (s c : ℕ) (p : Pair V) → 1 ≤ s → v.answers s c ≡ Some p → Known v p × Upto p.tag (replica v c).tag
+    pub hands : (s : ℕ) (h : Hand V) → 1 ≤ s → hand_of v s ≡ Some h → Begun v s h.job h.work × StageFits v s h h.stage
     pub told : (s : ℕ) (h : Hand V) → 1 ≤ s → hand_of v s ≡ Some h → (c : ℕ) → Member c h.told → (p : Pair V) × (v.answers s c ≡ Some p)
-    pub tagged : (k s job : ℕ) (p : Pair V) → TaggedRow k s job p → TaggedFits k s job p
-    pub ended : (i s job : ℕ) (p : Pair V) → EndedRow i s job p → EndedFits F i s job p
+    pub lasts : (k s job : ℕ) (p : Pair V) → TaggedRow v k s job p → p.tag.count ≤ last_of v s
+    pub tagged : (k s job : ℕ) (p : Pair V) → TaggedRow v k s job p → TaggedFits (page v) k s job p
+    pub ended : (i s job : ℕ) (p : Pair V) → EndedRow v i s job p → Ending i s job p

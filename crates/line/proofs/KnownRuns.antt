@@ -4,7 +4,8 @@ use lib.Count.{ones, ones_in}
 use Rattle.std.specs.List.{slice_get}
 use Rattle.words.specs.declared.tag.Tag.{Tag}
 use Rattle.words.specs.Tags.{Before, Upto}
-use Rattle.words.proofs.TagOrders.{tag_order}
+use Rattle.words.proofs.TagOrders.{tag_order, upto_refl}
+use Rattle.std.proofs.lemmas.Option.{same_Some}
 use Rattle.telegrams.specs.declared.Pair.{Pair}
 use Rattle.telegrams.specs.declared.Telegram.{Telegram}
 use Rattle.telegrams.specs.declared.TelegramKind.{TelegramKind}
@@ -18,8 +19,6 @@ use Rattle.views.specs.declared.Verdict.TheVariants.{SecondTrip}
 use Rattle.line.specs.declared.types.Collected.TheVariants as result
 use Rattle.line.specs.declared.types.Delivered.TheVariants as answer
 use Rattle.line.specs.declared.types.Hand.{Hand}
-use Rattle.line.specs.declared.types.Row.{Row}
-use Rattle.line.specs.declared.types.RowKind.{RowKind}
 use Rattle.line.specs.declared.types.Stage.{Stage}
 use Rattle.line.specs.declared.types.Stage.TheVariants.{Querying, Setting, Ended}
 use Rattle.line.specs.declared.types.Work.TheVariants.{Write, Read}
@@ -27,8 +26,7 @@ use Rattle.line.specs.Known as known
 use Rattle.line.specs.Lines.{View, change, ended_row, first_pair, hold, note, put, store, tagged_row, with_bus}
 use Rattle.line.specs.Runs.{AtTime, EndedAt, Laws, Moment, Placed, Run, Step, began, collected, delivered, more, none, read, write}
 use Rattle.line.specs.Steps.{Fits, begun, freed}
-use Rattle.line.proofs.Keeps.{none_some, some_same, upto_same}
-use Rattle.line.proofs.Order.{order_of_jobs}
+use Rattle.line.proofs.Order.{once_after, order_of_jobs}
 
 -- of three cabinets one is too few, and the first two are the least majority
 picks_none : Picked (MajorityOf 3) 1 None
@@ -53,7 +51,7 @@ two P a b (suc (suc k)) m = absurd (omega (arith, member_below 2 (suc (suc k)) 3
 judged : (t1 t2 t3 : Tag) → Before t1 t2 → Judged (t2 ∷ t1 ∷ t3 ∷ []) 3 (MajorityOf 3) (SecondTrip t2) 0
 judged t1 t2 t3 b =
     let tags = t2 ∷ t1 ∷ t3 ∷ [] in
-    let latest : Latest tags 3 t2 = two (λ k. Upto (told tags k) t2) (upto_same t2) (b.0, λ e. omega (arith, b.1 e)) in
+    let latest : Latest tags 3 t2 = two (λ k. Upto (told tags k) t2) (upto_refl t2) (b.0, λ e. omega (arith, b.1 e)) in
     let none_later : (u : Tag) → Held tags 3 u → Before t2 u → ⊥ =
     λ u h bu. tag_order.not_both t2 u bu (subst (λ (t : Tag). Upto t t2) h.2 (latest h.0 h.1)) in (
       (0, refl, refl),
@@ -66,7 +64,7 @@ judged t1 t2 t3 b =
           5,
           (lit< tt, ones_5),
           (λ e. omega arith),
-          (λ k mc mq. two (λ k. Member k 5 → Upto t2 (told tags k)) (λ _. upto_same t2) (λ m. absurd (omega (arith, m))) k mq mc),
+          (λ k mc mq. two (λ k. Member k 5 → Upto t2 (told tags k)) (λ _. upto_refl t2) (λ m. absurd (omega (arith, m))) k mq mc),
         ),
         (λ u h bu o. none_later u h bu),
         ([], tt, (λ u. ((λ x. absurd x), (λ p. none_later u p.0 p.1))), refl),
@@ -83,8 +81,8 @@ laws = record {
 
 -- places of the list count from the newest moment, times from the oldest
 at_time : {V : Type 0} (ms : List (Moment V)) (i : ℕ) (m : Moment V) → slice_get ms i ≡ Some m → AtTime ms (length ms - suc i) m
-at_time [] i m e = none_some m e
-at_time (x ∷ ms) zero m e = inl (omega arith, some_same e)
+at_time [] i m e = cc
+at_time (x ∷ ms) zero m e = inl (omega arith, same_Some x m e)
 at_time (x ∷ ms) (suc i) m e =
     let down : length ms - suc i ≡ suc (length ms) - suc (suc i) = omega arith in
     inr (subst (λ (k : ℕ). AtTime ms k m) down (at_time ms i m e))
@@ -178,7 +176,7 @@ module _ {V : Type 0} (old new : V) where
   m5 = record { before = v4; event = delivered 1 (Ok answer.SecondTrip); after = v5 }
 
   count_first : (p : Pair V) → Some first ≡ Some p → p.tag.count ≤ 0
-  count_first p e = omega (arith, ap (λ (x : Pair V). x.tag.count) (some_same e))
+  count_first p e = omega (arith, ap (λ (x : Pair V). x.tag.count) (same_Some first p e))
 
   greatest : (p : Pair V) (k : ℕ) → Member k 3 → w5.answers 1 k ≡ Some p → p.tag.count ≤ 0
   greatest p = two (λ k. w5.answers 1 k ≡ Some p → p.tag.count ≤ 0) (count_first p) (count_first p)
@@ -287,7 +285,7 @@ module _ {V : Type 0} (old new : V) where
   m12 = record { before = v11; event = delivered 5 (Ok answer.Answered); after = v12 }
 
   step12 : Happens m12
-  step12 = inr (inr (of_read 0 (Set written), refl, read_fits 0 (Set written) (lit< tt), (refl, (_, inr (upto_same written.tag, refl), refl))))
+  step12 = inr (inr (of_read 0 (Set written), refl, read_fits 0 (Set written) (lit< tt), (refl, (_, inr (upto_refl written.tag, refl), refl))))
 
   -- 13: cabinet 1 stores it
   abbrev v13 : View V
@@ -384,22 +382,13 @@ module _ {V : Type 0} (old new : V) where
     );
   }
 
-  abbrev kind_of : Row V → RowKind
-  kind_of r = r.kind
-
-  -- no row says that the write ended
-  no_row : (i : ℕ) (p : Pair V) (trips strikes : ℕ) → slice_get v16.journal i ≡ Some (ended_row 1 0 p trips strikes) → ⊥
-  no_row zero p trips strikes e = let z : ◌≡◌ {A = ℕ} 0 1 = cc (ap kind_of (some_same e)) in omega arith
-  no_row (suc zero) p trips strikes e = let z : ◌≡◌ {A = ℕ} 0 1 = cc (ap kind_of (some_same e)) in omega arith
-  no_row (suc (suc zero)) p trips strikes e = let z : ◌≡◌ {A = ℕ} 0 1 = cc (ap kind_of (some_same e)) in omega arith
-  no_row (suc (suc (suc zero))) p trips strikes e = omega (arith, ap (λ (r : Row V). r.station) (some_same e))
-  no_row (suc (suc (suc (suc i)))) p trips strikes e = none_some _ e
-
+  -- the write is still on its second trip, and so no row says that it ended
   unfinished : (k : ℕ) → EndedAt moments write_job k → ⊥
   unfinished k (m, p, at, ends) =
       let shown = (order_of_jobs (MajorityOf 3) 3 laws (record { count = 0; value = old }) 2 256 1024 moments v16 run).1 in
       let row = (shown.ended write_job k m p at ends).2 in
-      no_row (length m.before.journal) p row.0 row.1 row.2
+      let once = once_after (MajorityOf 3) 3 laws (record { count = 0; value = old }) 2 256 1024 run in
+      ((once.phase 1 (write_hand 3 (Setting written 0 0)) (lit≤ tt) refl).ended (length m.before.journal) row.0 row.1 p row.2).1
 
   pub known_run : known.KnownRun old new
   known_run = record {

@@ -1,7 +1,12 @@
 -- The moves that calls are made of, each of which keeps what holds of a line.
-use Rattle.std.proofs.Common.{◌≡◌, ℕ, zero, suc, ◌-◌, ◌<◌, ◌≤◌, eqb, ◌≢◌, ◌⊎◌, List, [], ◌∷◌, ◌++◌, length, get_or, set, Some, Option, sym, refl, ap, ◌∙◌, subst, inl, inr, ⊎_elim, arith}
-use Rattle.std.specs.List.{slice_get}
-use Rattle.std.proofs.lemmas.List.{get_or-set_other, get_or-set_same, set_past}
+use Rattle.std.proofs.Common.{◌≡◌, ℕ, ◌+◌, ◌-◌, ◌^◌, ◌<◌, ◌≤◌, eqb, ◌⊎◌, List, [], ◌∷◌, ◌++◌, length, get_or, set, Some, Option, sym, refl, ap, ◌∙◌, subst, inl, inr, ⊎_elim, zero-add, arith}
+use lib.Bits.{bit_or}
+use Rattle.std.specs.List.{Contains, slice_get}
+use Rattle.std.specs.Option.{IfSome}
+use Rattle.std.proofs.lemmas.Grind.{common_steps}
+use Rattle.std.proofs.lemmas.List.FromFn.{get_or-map-range_with_len}
+use Rattle.std.proofs.lemmas.Option.{gets, slice_get_within}
+use Rattle.std.proofs.lemmas.List.{get_or-set_other, get_or-set_same, length-set, set_past}
 use Rattle.std.proofs.lemmas.Bool.{cases_eq, cases_lt, cond-true, cond-false, eq-eqb, ne_eqb}
 use Rattle.words.specs.declared.tag.Tag.{Tag}
 use Rattle.words.specs.Tags.{Before, Upto}
@@ -11,6 +16,7 @@ use Rattle.telegrams.specs.declared.Telegram.{Telegram}
 use Rattle.telegrams.specs.declared.TelegramKind.{TelegramKind}
 use Rattle.telegrams.specs.declared.TelegramKind.TheVariants.{Query, Told, Set, Took}
 use Rattle.quorums.specs.Sets.{Member}
+use Rattle.views.specs.Views.{told}
 use Rattle.line.specs.declared.types.Hand.{Hand}
 use Rattle.line.specs.declared.types.Row.{Row}
 use Rattle.line.specs.declared.types.Stage.{Stage}
@@ -18,36 +24,67 @@ use Rattle.line.specs.declared.types.Stage.TheVariants.{Querying, Setting, Ended
 use Rattle.line.specs.declared.types.Station.{Station}
 use Rattle.line.specs.declared.types.Work.{Work}
 use Rattle.line.specs.declared.types.Work.TheVariants.{Write, Read}
-use Rattle.line.specs.Lines.{View, change, ended_row, first_pair, hand_of, idle, last_of, note, replica, station_at, store, tagged_row, with_bus}
-use Rattle.line.proofs.Invariants.{AboveEnded, Among, Begun, Carries, Earned, EndedFits, EndedRow, Guard, Inv, KindFits, Known, Sound, StageFits, TaggedFits, TookFits}
+use Rattle.line.specs.Lines.{View, change, ended_row, first_pair, hand_of, idle, last_of, note, put, replica, size, station_at, store, tag_of, tagged_row, told_tags, with_bus}
+use Rattle.line.proofs.Invariants.{AboveEnded, Begun, Carries, Earned, Ending, EndedRow, Guard, Inv, KindFits, Known, Sound, StageFits, TaggedFits, TookFits, page}
 
 -- places of a list
-pub nth_below : {X : Type 0} (xs : List X) (i : ℕ) (x : X) → slice_get xs i ≡ Some x → i < length xs
-nth_below [] i x e = let z : ◌≡◌ {A = ℕ} 0 1 = cc in absurd (omega arith)
-nth_below (y ∷ ys) zero x e = omega arith
-nth_below (y ∷ ys) (suc i) x e = omega (arith, nth_below ys i x e)
-
 pub nth_kept : {X : Type 0} (xs : List X) (y : X) (i : ℕ) (x : X) → slice_get xs i ≡ Some x → slice_get (xs ++ (y ∷ [])) i ≡ Some x
-nth_kept [] y i x e = let z : ◌≡◌ {A = ℕ} 0 1 = cc in absurd (omega arith)
-nth_kept (z ∷ zs) y zero x e = e
-nth_kept (z ∷ zs) y (suc i) x e = nth_kept zs y i x e
+nth_kept xs y i x e = grind (arith, common_steps, gets)
 
 pub nth_last : {X : Type 0} (xs : List X) (y : X) → slice_get (xs ++ (y ∷ [])) (length xs) ≡ Some y
-nth_last [] y = refl
-nth_last (x ∷ xs) y = nth_last xs y
+nth_last xs y = grind (arith, common_steps, gets)
 
-pub nth_cases : {X : Type 0} (xs : List X) (y : X) (i : ℕ) (x : X) → slice_get (xs ++ (y ∷ [])) i ≡ Some x → (slice_get xs i ≡ Some x) ⊎ ((i ≡ length xs) × (y ≡ x))
-nth_cases [] y zero x e = let same : y ≡ x = cc in inr (refl, same)
-nth_cases [] y (suc i) x e = let z : ◌≡◌ {A = ℕ} 0 1 = cc in absurd (omega arith)
-nth_cases (z ∷ zs) y zero x e = inl e
-nth_cases (z ∷ zs) y (suc i) x e = ⊎_elim inl (λ p. inr (ap suc p.0, p.1)) (nth_cases zs y i x e)
+pub nth_cases : {X : Type 0} (xs : List X) (y : X) (i : ℕ) (x : X) → slice_get (xs ++ (y ∷ [])) i ≡ Some x
+    → (slice_get xs i ≡ Some x) ⊎ ((i ≡ length xs) × (y ≡ x))
+nth_cases xs y i x e = grind (arith, common_steps, gets)
+
+-- a function changed at one number
+pub put_here : {X : Type 0} (f : ℕ → X) (i : ℕ) (x : X) → put f i x i ≡ x
+put_here f i x = cond-true (eqb i i) x (f i) (eq-eqb i i refl)
+
+pub put_other : {X : Type 0} (f : ℕ → X) (i : ℕ) (x : X) (k : ℕ) → (k ≡ i → ⊥) → put f i x k ≡ f k
+put_other f i x k ne = cond-false (eqb k i) x (f k) (ne_eqb k i ne)
+
+-- the record of a station that has changed, and another's
+module _ {V : Type 0} (stations : List (Station V)) (s : ℕ) (one : 1 ≤ s) (st : Station V) where
+  pub station_here : s ≤ length stations → station_at (set stations (s - 1) st) s ≡ st
+  station_here in_line = get_or-set_same stations (s - 1) st idle (omega arith)
+
+  pub station_other : (r : ℕ) → 1 ≤ r → (r ≡ s → ⊥) → station_at (set stations (s - 1) st) r ≡ station_at stations r
+  station_other r l ne = get_or-set_other stations (s - 1) (r - 1) st idle (λ e. ne (omega arith))
+
+  pub station_still : s ≤ length stations → s ≤ length (set stations (s - 1) st)
+  station_still in_line = omega (arith, length-set stations (s - 1) st)
+
+pub hand_here : {V : Type 0} (v : View V) (s : ℕ) → 1 ≤ s → s ≤ length v.stations → (last : ℕ) (hand : Option (Hand V)) (answers : ℕ → Option (Pair V))
+    → hand_of (change v s last hand answers) s ≡ hand
+hand_here {V} v s one in_line last hand answers = ap (λ (st : Station V). st.hand) (station_here v.stations s one (record { last = last; hand = hand }) in_line)
+
+-- the pair of a write whose quorum told counts up to g, and the line with its tag
+abbrev pub made : {V : Type 0} → ℕ → V → ℕ → Pair V
+made s y g = record { tag = record { count = g + 1; owner = s }; value = y }
+
+abbrev pub tagged_line : {V : Type 0} → View V → ℕ → Hand V → V → ℕ → View V
+tagged_line w s h y g = note (change w s (g + 1) (Some h) (w.answers s)) (tagged_row s h.job (made s y g))
+
+-- a tag that was told
+pub told_at : {V : Type 0} (v : View V) (s k : ℕ) (u : Pair V) → k < size v → v.answers s k ≡ Some u → told (told_tags v s) k ≡ u.tag
+told_at v s k u low a =
+    get_or-map-range_with_len (λ c. tag_of (v.answers s c)) 0 (size v) k k (record { count = 0; owner = 0 }) low (zero-add k) ∙ ap tag_of a
+
+-- the hand and the line that have kept a telling
+abbrev pub told_hand : {V : Type 0} → Telegram V → Hand V → Hand V
+told_hand t h = record { job = h.job; work = h.work; told = bit_or h.told (2 ^ t.cabinet); stage = Querying; shelved = h.shelved }
+
+abbrev pub told_view : {V : Type 0} → View V → Telegram V → Hand V → Pair V → View V
+told_view v t h p = change v t.station (last_of v t.station) (Some (told_hand t h)) (put (v.answers t.station) t.cabinet (Some p))
 
 module _ {V : Type 0} (F : ℕ → Type 0) (v : View V) (inv : Inv v F) where
   -- a telegram that has just been sent: a telling carries the cabinet's replica
   abbrev pub New : Telegram V → Type 0
   New t = Sound v t × ((u : Pair V) → t.kind ≡ Told u → u ≡ replica v t.cabinet)
 
-  pub inv_bus : (b : List (Telegram V)) → ((t : Telegram V) → Among b t → Among v.bus t ⊎ New t) → Inv (with_bus v b) F
+  pub inv_bus : (b : List (Telegram V)) → ((t : Telegram V) → Contains b t → Contains v.bus t ⊎ New t) → Inv (with_bus v b) F
   inv_bus b from =
       let again : (t : Telegram V) → Sound v t → Sound (with_bus v b) t =
       λ t x. record { station = x.station; work = x.work; begun = x.begun; carries = x.carries; fits = x.fits } in
@@ -57,18 +94,12 @@ module _ {V : Type 0} (F : ℕ → Type 0) (v : View V) (inv : Inv v F) where
         answers = inv.answers;
         hands = inv.hands;
         told = inv.told;
-        tagged = λ k s j p r.
-            let x = inv.tagged k s j p r in
-            record { owner = x.owner; station = x.station; above_first = x.above_first; upto_last = x.upto_last; begun = x.begun; above_ended = x.above_ended; rises = x.rises };
+        lasts = inv.lasts;
+        tagged = inv.tagged;
         ended = λ i s j p r.
             let x = inv.ended i s j p r in
             record {
-              work = x.work;
-              begun = x.begun;
-              known = x.known;
-              earned = x.earned;
-              quorum = x.quorum;
-              is_quorum = x.is_quorum;
+              fits = x.fits;
               guards = λ c m.
                   let g = x.guards c m in
                   record {
@@ -90,11 +121,10 @@ module _ {V : Type 0} (F : ℕ → Type 0) (v : View V) (inv : Inv v F) where
     w = note v r
 
     begun_below : (s job : ℕ) (work : Work V) → Begun v s job work → job < length v.journal
-    begun_below s job work b = nth_below v.journal job _ b
+    begun_below s job work b = slice_get_within v.journal job _ b
 
     pub begun_note : (s job : ℕ) (work : Work V) → Begun v s job work → Begun w s job work
-    begun_note s job (Write x) b = nth_kept v.journal r job _ b
-    begun_note s job Read b = nth_kept v.journal r job _ b
+    begun_note s job work b = nth_kept v.journal r job _ b
 
     pub known_note : (p : Pair V) → Known v p → Known w p
     known_note p = ⊎_elim inl (λ x. inr (x.0, x.1, x.2, nth_kept v.journal r x.0 _ x.3))
@@ -123,49 +153,59 @@ module _ {V : Type 0} (F : ℕ → Type 0) (v : View V) (inv : Inv v F) where
     stage_note s h (Ended p trips strikes) l x = tt
     stage_note s h Spent l x = tt
 
-    pub inv_note : ((s j : ℕ) (p : Pair V) → r ≡ tagged_row s j p → TaggedFits w (length v.journal) s j p) → ((s j : ℕ) (p : Pair V) (a b : ℕ) → r ≡ ended_row s j p a b → EndedFits w F (length v.journal) s j p) → Inv w F
+    pub inv_note : ((s j : ℕ) (p : Pair V) → r ≡ tagged_row s j p → TaggedFits (page w) (length v.journal) s j p × (p.tag.count ≤ last_of v s))
+        → ((s j : ℕ) (p : Pair V) (a b : ℕ) → r ≡ ended_row s j p a b → Ending w F (length v.journal) s j p) → Inv w F
     inv_note new-tagged new-ended = record {
       replicas = λ c. known_note (replica v c) (inv.replicas c);
       bus = λ t m.
           let x = inv.bus t m in
-          record { station = x.station; work = x.work; begun = begun_note t.station t.job x.work x.begun; carries = carries_note t t.kind x.carries; fits = x.fits };
+          record {
+            station = x.station;
+            work = x.work;
+            begun = begun_note t.station t.job x.work x.begun;
+            carries = carries_note t t.kind x.carries;
+            fits = x.fits;
+          };
       answers = λ s c p h e. let x = inv.answers s c p h e in (known_note p x.0, x.1);
       hands = λ s h l e.
           let x = inv.hands s h l e in
           (begun_note s h.job h.work x.0, stage_note s h h.stage (begun_below s h.job h.work x.0) x.1);
       told = inv.told;
+      lasts = λ k s j p row. ⊎_elim (inv.lasts k s j p) (λ here. (new-tagged s j p here.1).1) (nth_cases v.journal r k _ row);
       tagged = λ k s j p row.
           ⊎_elim
           (λ old.
           let x = inv.tagged k s j p old in
-          let far = nth_below v.journal k _ old in
+          let far = slice_get_within v.journal k _ old in
           let low = begun_below s j (Write p.value) x.begun in
           record {
             owner = x.owner;
             station = x.station;
             above_first = x.above_first;
-            upto_last = x.upto_last;
             begun = begun_note s j (Write p.value) x.begun;
             above_ended = λ i q m u e l. x.above_ended i q m u (ended_old i q m u e (omega arith)) l;
             rises = λ i m u l t. x.rises i m u l (⊎_elim (λ o. o) (λ n. absurd (omega (arith, n.0))) (nth_cases v.journal r i _ t));
           })
-          (λ here. subst (λ (i : ℕ). TaggedFits w i s j p) (sym here.0) (new-tagged s j p here.1))
+          (λ here. subst (λ (i : ℕ). TaggedFits (page w) i s j p) (sym here.0) (new-tagged s j p here.1).0)
           (nth_cases v.journal r k _ row);
       ended = λ i s j p row.
           ⊎_elim
           (λ old.
           let x = inv.ended i s j p (row.0, row.1, old) in
-          let low = begun_below s j x.work x.begun in
+          let y = x.fits in
+          let low = begun_below s j y.work y.begun in
           record {
-            work = x.work;
-            begun = begun_note s j x.work x.begun;
-            known = known_note p x.known;
-            earned = earned_note s j x.work p low x.earned;
-            quorum = x.quorum;
-            is_quorum = x.is_quorum;
+            fits = record {
+              work = y.work;
+              begun = begun_note s j y.work y.begun;
+              known = known_note p y.known;
+              earned = earned_note s j y.work p low y.earned;
+              quorum = y.quorum;
+              is_quorum = y.is_quorum;
+            };
             guards = λ c m. let g = x.guards c m in record { stored = g.stored; under_way = g.under_way; kept = g.kept };
           })
-          (λ here. subst (λ (k : ℕ). EndedFits w F k s j p) (sym here.0) (new-ended s j p row.0 row.1 here.1))
+          (λ here. subst (λ (k : ℕ). Ending w F k s j p) (sym here.0) (new-ended s j p row.0 row.1 here.1))
           (nth_cases v.journal r i _ row.2);
     }
 
@@ -210,19 +250,11 @@ module _ {V : Type 0} (F : ℕ → Type 0) (v : View V) (inv : Inv v F) where
     kind_store t (Set u) h x = x
     kind_store t Took h x = took_store t.cabinet h.stage x
 
-    earned_store : (s job : ℕ) (work : Work V) (u : Pair V) → Earned v s job work u → Earned (store v c p) s job work u
-    earned_store s job (Write x) u e = e
-    earned_store s job Read u e = e
-
     stage_store : (s : ℕ) (h : Hand V) (st : Stage V) → StageFits v s h st → StageFits (store v c p) s h st
     stage_store s h Querying x = tt
-    stage_store s h (Setting u strikes took) x = (x.0, (λ k m. up u.tag k (x.1 k m)), earned_store s h.job h.work u x.2)
+    stage_store s h (Setting u strikes took) x = (x.0, (λ k m. up u.tag k (x.1 k m)), x.2)
     stage_store s h (Ended u trips strikes) x = tt
     stage_store s h Spent x = tt
-
-    begun_store : (s job : ℕ) (work : Work V) → Begun v s job work → Begun (store v c p) s job work
-    begun_store s job (Write x) b = b
-    begun_store s job Read b = b
 
     pub inv_store : Inv (store v c p) F
     inv_store = record {
@@ -232,25 +264,19 @@ module _ {V : Type 0} (F : ℕ → Type 0) (v : View V) (inv : Inv v F) where
           record {
             station = x.station;
             work = x.work;
-            begun = begun_store t.station t.job x.work x.begun;
+            begun = x.begun;
             carries = carries_store t t.kind x.carries;
             fits = λ h e l. kind_store t t.kind h (x.fits h e l);
           };
       answers = λ s k u h e. let x = inv.answers s k u h e in (x.0, up u.tag k x.1);
-      hands = λ s h l e. let x = inv.hands s h l e in (begun_store s h.job h.work x.0, stage_store s h h.stage x.1);
+      hands = λ s h l e. let x = inv.hands s h l e in (x.0, stage_store s h h.stage x.1);
       told = inv.told;
-      tagged = λ k s j u row.
-          let x = inv.tagged k s j u row in
-          record { owner = x.owner; station = x.station; above_first = x.above_first; upto_last = x.upto_last; begun = x.begun; above_ended = x.above_ended; rises = x.rises };
+      lasts = inv.lasts;
+      tagged = inv.tagged;
       ended = λ i s j u row.
           let x = inv.ended i s j u row in
           record {
-            work = x.work;
-            begun = begun_store s j x.work x.begun;
-            known = x.known;
-            earned = earned_store s j x.work u x.earned;
-            quorum = x.quorum;
-            is_quorum = x.is_quorum;
+            fits = x.fits;
             guards = λ k m. let g = x.guards k m in record { stored = up u.tag k g.stored; under_way = g.under_way; kept = g.kept };
           };
     }
@@ -261,34 +287,38 @@ module _ {V : Type 0} (F : ℕ → Type 0) (v : View V) (inv : Inv v F) where
     x = change v s last hand answers
 
     pub here : station_at x.stations s ≡ record { last = last; hand = hand }
-    here = get_or-set_same v.stations (s - 1) (record { last = last; hand = hand }) idle (omega arith)
+    here = station_here v.stations s one (record { last = last; hand = hand }) in_line
 
     other : (r : ℕ) → 1 ≤ r → (r ≡ s → ⊥) → station_at x.stations r ≡ station_at v.stations r
-    other r h ne =
-        let apart : (r - 1) ≢ (s - 1) = λ e. ne (omega arith) in
-        get_or-set_other v.stations (s - 1) (r - 1) (record { last = last; hand = hand }) idle apart
+    other = station_other v.stations s one (record { last = last; hand = hand })
 
     pub answers_here : (c : ℕ) → x.answers s c ≡ answers c
-    answers_here c = ap (λ (f : ℕ → Option (Pair V)). f c) (cond-true (eqb s s) answers (v.answers s) (eq-eqb s s refl))
+    answers_here c = ap (λ (f : ℕ → Option (Pair V)). f c) (put_here v.answers s answers)
 
     answers_other : (r c : ℕ) → (r ≡ s → ⊥) → x.answers r c ≡ v.answers r c
-    answers_other r c ne = ap (λ (f : ℕ → Option (Pair V)). f c) (cond-false (eqb r s) answers (v.answers r) (ne_eqb r s ne))
+    answers_other r c ne = ap (λ (f : ℕ → Option (Pair V)). f c) (put_other v.answers s answers r ne)
 
     -- what is asked of the new job in hand and of what was told it
     pub record Asked : Type 0 where
       pub rises : last_of v s ≤ last
-      pub begun : (h : Hand V) → hand ≡ Some h → Begun v s h.job h.work × StageFits v s h h.stage
-      pub fits : (t : Telegram V) → Among v.bus t → t.station ≡ s → (h : Hand V) → hand ≡ Some h → h.job ≡ t.job → KindFits v t t.kind h
-      pub tells : (h : Hand V) → hand ≡ Some h → (c : ℕ) → Member c h.told → (p : Pair V) × (answers c ≡ Some p)
+      pub begun : IfSome hand (λ h. Begun v s h.job h.work × StageFits v s h h.stage)
+      pub fits : IfSome hand (λ h. (t : Telegram V) → Contains v.bus t → t.station ≡ s → h.job ≡ t.job → KindFits v t t.kind h)
+      pub tells : IfSome hand (λ h. (c : ℕ) → Member c h.told → (p : Pair V) × (answers c ≡ Some p))
       pub told : (c : ℕ) (p : Pair V) → answers c ≡ Some p → Known v p × Upto p.tag (replica v c).tag
-      pub guarded : (i c : ℕ) (p : Pair V) → Guard v i p c → (h : Hand V) (u : Pair V) → hand ≡ Some h → answers c ≡ Some u → i < h.job → Upto p.tag u.tag
+      pub guarded : IfSome hand (λ h. (i c : ℕ) (p : Pair V) → Guard v i p c → (u : Pair V) → answers c ≡ Some u → i < h.job → Upto p.tag u.tag)
 
     module _ (asked : Asked) where
-      hand_here : (h : Hand V) → hand_of x s ≡ Some h → hand ≡ Some h
-      hand_here h e = sym (ap (λ (st : Station V). st.hand) here) ∙ e
+      -- of the job that the station has now, and of another station's
+      mine : (P : Hand V → Type 0) → IfSome hand P → (r : ℕ) (h : Hand V) → r ≡ s → hand_of x r ≡ Some h → P h
+      mine P given r h at e =
+          let now : hand ≡ Some h = sym (hand_here v s one in_line last hand answers) ∙ ap (hand_of x) (sym at) ∙ e in
+          subst (λ (k : Option (Hand V)). IfSome k P) now given
 
       hand_other : (r : ℕ) (h : Hand V) → 1 ≤ r → (r ≡ s → ⊥) → hand_of x r ≡ Some h → hand_of v r ≡ Some h
       hand_other r h l ne e = sym (ap (λ (st : Station V). st.hand) (other r l ne)) ∙ e
+
+      answered_here : (r c : ℕ) (p : Pair V) → r ≡ s → x.answers r c ≡ Some p → answers c ≡ Some p
+      answered_here r c p at e = sym (answers_here c) ∙ ap (λ (q : ℕ). x.answers q c) (sym at) ∙ e
 
       last_rises : (r : ℕ) → 1 ≤ r → last_of v r ≤ last_of x r
       last_rises r l =
@@ -308,43 +338,29 @@ module _ {V : Type 0} (F : ℕ → Type 0) (v : View V) (inv : Inv v F) where
               carries = y.carries;
               fits = λ h e l.
                   ⊎_elim
-                  (λ at. asked.fits t m at h (hand_here h (subst (λ (r : ℕ). hand_of x r ≡ Some h) at e)) l)
+                  (λ at. mine _ asked.fits t.station h at e t m at l)
                   (λ ne. y.fits h (hand_other t.station h y.station ne e) l) (cases_eq t.station s);
             };
         answers = λ r c p l e.
             ⊎_elim
-            (λ at. asked.told c p (sym (answers_here c) ∙ subst (λ (q : ℕ). x.answers q c ≡ Some p) at e))
+            (λ at. asked.told c p (answered_here r c p at e))
             (λ ne. inv.answers r c p l (sym (answers_other r c ne) ∙ e)) (cases_eq r s);
         hands = λ r h l e.
             ⊎_elim
-            (λ at. subst (λ (q : ℕ). Begun v q h.job h.work × StageFits v q h h.stage) (sym at) (asked.begun h (hand_here h (subst (λ (q : ℕ). hand_of x q ≡ Some h) at e))))
+            (λ at. subst (λ (q : ℕ). Begun v q h.job h.work × StageFits v q h h.stage) (sym at) (mine _ asked.begun r h at e))
             (λ ne. inv.hands r h l (hand_other r h l ne e)) (cases_eq r s);
         told = λ r h l e c m.
             ⊎_elim
             (λ at.
-            let y = asked.tells h (hand_here h (subst (λ (q : ℕ). hand_of x q ≡ Some h) at e)) c m in
+            let y = mine _ asked.tells r h at e c m in
             (y.0, ap (λ (q : ℕ). x.answers q c) at ∙ answers_here c ∙ y.1))
             (λ ne. let y = inv.told r h l (hand_other r h l ne e) c m in (y.0, answers_other r c ne ∙ y.1)) (cases_eq r s);
-        tagged = λ k r j p row.
-            let y = inv.tagged k r j p row in
-            record {
-              owner = y.owner;
-              station = y.station;
-              above_first = y.above_first;
-              upto_last = omega (arith, y.upto_last, last_rises r y.station);
-              begun = y.begun;
-              above_ended = y.above_ended;
-              rises = y.rises;
-            };
+        lasts = λ k r j p row. omega (arith, inv.lasts k r j p row, last_rises r (inv.tagged k r j p row).station);
+        tagged = inv.tagged;
         ended = λ i r j p row.
             let y = inv.ended i r j p row in
             record {
-              work = y.work;
-              begun = y.begun;
-              known = y.known;
-              earned = y.earned;
-              quorum = y.quorum;
-              is_quorum = y.is_quorum;
+              fits = y.fits;
               guards = λ c m.
                   let g = y.guards c m in
                   record {
@@ -353,8 +369,7 @@ module _ {V : Type 0} (F : ℕ → Type 0) (v : View V) (inv : Inv v F) where
                     kept = λ q h u l e a low.
                         ⊎_elim
                         (λ at.
-                        asked.guarded i c p g h u (hand_here h (subst (λ (z : ℕ). hand_of x z ≡ Some h) at e))
-                        (sym (answers_here c) ∙ subst (λ (z : ℕ). x.answers z c ≡ Some u) at a) low)
+                        mine _ asked.guarded q h at e i c p g u (answered_here q c u at a) low)
                         (λ ne. g.kept q h u l (hand_other q h l ne e) (sym (answers_other q c ne) ∙ a) low) (cases_eq q s);
                   };
             };

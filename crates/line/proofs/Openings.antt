@@ -1,11 +1,12 @@
 -- The order of jobs in all calls that follow an opening.
-use Rattle.std.proofs.Common.{◌≡◌, ℕ, zero, suc, ◌-◌, ◌*◌, ◌^◌, ◌≤◌, List, length, replicate, Ok, Err, Result, sym, refl, ap, ◌∙◌, subst, inl, inr, ⊎_elim, arith}
+use Rattle.std.proofs.Common.{◌≡◌, ℕ, ◌-◌, ◌*◌, ◌^◌, ◌≤◌, List, length, replicate, Ok, sym, refl, ap, ◌∙◌, subst, inl, inr, ⊎_elim, arith}
+use Rattle.std.proofs.lemmas.Grind.{common_steps}
 use Rattle.std.proofs.lemmas.List.{length-replicate}
-use Rattle.words.specs.declared.refusal.Refusal.{Refusal}
+use Rattle.std.proofs.lemmas.List.Recursion.{is_sum_by}
 use Rattle.line.specs.declared.types.First.{First}
 use Rattle.line.specs.declared.types.Memory.{Memory}
 use Rattle.line.specs.declared.types.Station.{Station}
-use Rattle.line.specs.Lines.{View, idle, owed}
+use Rattle.line.specs.Lines.{View, idle, owed, owed_in}
 use Rattle.line.specs.Seen.{seen}
 use Rattle.line.specs.Memories.{Opens, OrderAfter, Sound}
 use Rattle.line.specs.Runs.{Laws, Run}
@@ -13,16 +14,12 @@ use Rattle.line.proofs.Order.{order_of_jobs, trips_carry}
 use Rattle.line.proofs.Sounds.{runs}
 
 owed_idle : (V : Type 0) (k : ℕ) → owed {V = V} (replicate k idle) ≡ 0
-owed_idle V zero = refl
-owed_idle V (suc k) = omega (arith, owed_idle V k)
-
-accepted : {A : Type 0} (e : Refusal) → ◌≡◌ {A = Result (Unit {0}) Refusal} (Ok tt) (Err e) → A
-accepted e f = let z : ◌≡◌ {A = ℕ} 0 1 = cc in absurd (omega arith)
+owed_idle V k = grind (arith, common_steps, is_sum_by owed (λ (s : Station V). owed_in s.hand) refl (λ _ _. refl))
 
 module _ {V : Type 0} where
   module _ (n : ℕ) (F : ℕ → Type 0) (laws : Laws F n) (first : First V) (m after : Memory V) where
     opened_sound : Opens n first m (Ok tt) after → Sound n after
-    opened_sound (inl bad) = accepted bad.1.0 bad.1.1
+    opened_sound (inl bad) = cc bad.1.1
     opened_sound (inr ((count, replicas, one, few, answers, bus-low, bus-high, rows-low, rows-high), _, lends, is)) =
         let k = length m.stations.now in
         let stations : after.stations.now ≡ replicate k idle = ap (λ (v : View V). v.stations) is in
@@ -48,7 +45,7 @@ module _ {V : Type 0} where
 
     pub after_opening : Opens n first m (Ok tt) after → OrderAfter n F first after
     after_opening opens ms end calls =
-        ⊎_elim (λ bad. accepted bad.1.0 bad.1.1)
+        ⊎_elim (λ bad. cc bad.1.1)
         (λ good.
         let r = runs n F after end ms (opened_sound opens) calls in
         let k = length m.stations.now in

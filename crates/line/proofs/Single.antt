@@ -1,16 +1,15 @@
 -- From one line a call has one answer and leaves one line.
-use Rattle.std.proofs.Common.{◌≡◌, ℕ, suc, ◌+◌, ◌-◌, ◌^◌, ◌≤◌, true, false, ◌⊎◌, List, [], ◌∷◌, length, get_or, Some, None, Ok, Err, Option, Result, sym, refl, ap, ◌∙◌, subst, inl, inr, ⊎_elim, arith}
-use lib.Bits.{bit_or}
+use Rattle.std.proofs.Common.{◌≡◌, ℕ, ◌≤◌, true, false, ◌⊎◌, [], ◌∷◌, Some, None, Ok, Err, Option, Result, sym, ap, ◌∙◌, subst, inl, inr, ⊎_elim, arith}
 use Rattle.std.specs.List.{remove}
 use Rattle.std.proofs.lemmas.Bool.{cases_order}
+use Rattle.std.proofs.lemmas.Grind.{common_steps}
+use Rattle.std.proofs.lemmas.Option.{same_Some, slice_get_within}
 use Rattle.words.specs.Refusals.{number}
 use Rattle.words.specs.declared.refusal.Refusal.{Refusal}
-use Rattle.words.specs.declared.refusal.Refusal.TheVariants.{BadPlan, LooseCrews, NoStation, HandsFull, BusFull, BookFull, NoTelegram, NotOver, StrangeTicket, BadWord, BadValue, BadTape, ShortStrip}
 use Rattle.words.specs.declared.tag.Tag.{Tag}
-use Rattle.words.specs.Tags.{Before, Upto}
 use Rattle.words.proofs.TagOrders.{tag_order}
 use Rattle.quorums.specs.Sets.{Member, Picked}
-use Rattle.views.specs.Views.{Among, Earliest, Held, Judged, NoneLater, OtherAt, Rising, Struck}
+use Rattle.quorums.proofs.Picks.{picked_same}
 use Rattle.views.specs.declared.Verdict.{Verdict}
 use Rattle.views.specs.declared.Verdict.TheVariants.{OneTrip, SecondTrip}
 use Rattle.telegrams.specs.declared.Pair.{Pair}
@@ -25,129 +24,65 @@ use Rattle.line.specs.declared.types.Stage.{Stage}
 use Rattle.line.specs.declared.types.Stage.TheVariants.{Querying, Setting, Ended, Spent}
 use Rattle.line.specs.declared.types.Work.{Work}
 use Rattle.line.specs.declared.types.Work.TheVariants.{Write, Read}
-use Rattle.line.specs.Lines.{View, at_stage, change, hand_of, hold, last_of, note, put, replica, reply, send, ended_row, tagged_row, told_tags, with_bus}
+use Rattle.line.specs.Lines.{View, at_stage, hand_of, hold, note, replica, reply, send, ended_row, told_tags, with_bus}
 use Rattle.line.specs.Results.{One, OneResult}
 use Rattle.line.specs.Steps.{Answer, AtHand, AtStation, Begins, Chosen, Claims, Collects, Delivers, Doubles, Fits, GivesUp, Greatest, Handed, InHand, Loses, Lowest, Over, Reads, Refused, Second, Shelves, Stored, Tags, TagsAfter, Takes, Tells, with_shelf}
-use Rattle.line.proofs.Keeps.{none_some, some_same}
-use Rattle.line.proofs.Moves.{nth_below}
-
-upto : (a b : Tag) → Before a b → Upto a b
-upto a b l = (l.0, λ e. omega (arith, l.1 e))
-
-pub not_before : (a b : Tag) → a ≡ b → Before a b → ⊥
-not_before a b e l = tag_order.not_both a b l (subst (λ (z : Tag). Upto b z) (sym e) (omega arith, λ _. omega arith))
-
--- rising lists of the same tags are of one length
-rising_length : (xs ys : List Tag) → Rising xs → Rising ys → ((u : Tag) → Among xs u → Among ys u) → ((u : Tag) → Among ys u → Among xs u) → length xs ≡ length ys
-rising_length [] [] a b to back = refl
-rising_length [] (y ∷ ys) a b to back = absurd (back y (inl refl))
-rising_length (x ∷ xs) [] a b to back = absurd (to x (inl refl))
-rising_length (x ∷ xs) (y ∷ ys) a b to back =
-    let heads : x ≡ y =
-    ⊎_elim sym (λ later. ⊎_elim (λ e. e) (λ earlier. absurd (tag_order.not_both x y (a.0 y earlier) (upto y x (b.0 x later)))) (back y (inl refl))) (to x (inl refl)) in
-    ap suc
-    (rising_length xs ys a.1 b.1
-    (λ u m. ⊎_elim (λ e. absurd (not_before x u (heads ∙ e) (a.0 u m))) (λ r. r) (to u (inr m)))
-    (λ u m. ⊎_elim (λ e. absurd (not_before y u (sym heads ∙ e) (b.0 u m))) (λ r. r) (back u (inr m))))
-
-module _ (tags : List Tag) (q : ℕ) (F : ℕ → Type 0) where
-  struck_same : (t u : Tag) (a b : ℕ) → t ≡ u → Struck tags q t a → Struck tags q u b → a ≡ b
-  struck_same t u a b e x y =
-      let z = subst (λ (v : Tag). Struck tags q v b) (sym e) y in
-      sym x.3 ∙ rising_length x.0 z.0 x.1 z.1 (λ v m. (z.2 v).1 ((x.2 v).0 m)) (λ v m. (x.2 v).1 ((z.2 v).0 m)) ∙ z.3
-
-  -- the tag at which a second trip was decided
-  decided_same : (t u : Tag) → Held tags q t → Held tags q u → OtherAt tags q F t → OtherAt tags q F u → NoneLater tags q F t → NoneLater tags q F u → t ≡ u
-  decided_same t u ht hu ot ou nt nu =
-      ⊎_elim (λ l. absurd (nt u hu l ou))
-      (λ down. ⊎_elim (λ l. absurd (nu t ht l ot)) (λ up. tag_order.same t u up down) (tag_order.either u t))
-      (tag_order.either t u)
-
-  abbrev Apart : Type 0
-  Apart = (t : Tag) → Earliest tags q t → NoneLater tags q F t → (u : Tag) → Held tags q u → ((w : Tag) × Held tags q w × Before w u) → OtherAt tags q F u → ⊥
-
-  apart : Apart
-  apart t early none u hu (w, hw, l) other =
-      none u hu (tag_order.through_before t w u (subst (Upto t) hw.2 (early hw.0 hw.1)) l) other
-
-  judged_same : (v w : Verdict) (a b : ℕ) → Judged tags q F v a → Judged tags q F w b → (v ≡ w) × (a ≡ b)
-  judged_same (OneTrip t) (OneTrip u) a b x y =
-      let e : t ≡ u = tag_order.same t u (subst (Upto t) y.0.2 (x.1 y.0.0 y.0.1)) (subst (Upto u) x.0.2 (y.1 x.0.0 x.0.1)) in
-      (ap OneTrip e, struck_same t u a b e x.3 y.3)
-  judged_same (OneTrip t) (SecondTrip m) a b x y = absurd (apart t x.1 x.2 y.2.0 y.2.1 y.2.2 y.2.3)
-  judged_same (SecondTrip m) (OneTrip t) a b x y = absurd (apart t y.1 y.2 x.2.0 x.2.1 x.2.2 x.2.3)
-  judged_same (SecondTrip m) (SecondTrip o) a b x y =
-      let e : m ≡ o = tag_order.same m o (subst (λ (z : Tag). Upto z o) x.0.2 (y.1 x.0.0 x.0.1)) (subst (λ (z : Tag). Upto z m) y.0.2 (x.1 y.0.0 y.0.1)) in
-      let d = decided_same x.2.0 y.2.0 x.2.1 y.2.1 x.2.3 y.2.3 x.2.4 y.2.4 in
-      (ap SecondTrip e, struck_same x.2.0 y.2.0 a b d x.2.5 y.2.5)
-
-pub picked_same : (F : ℕ → Type 0) (given : ℕ) (a b : Option ℕ) → Picked F given a → Picked F given b → a ≡ b
-picked_same F given None None x y = refl
-picked_same F given None (Some q) x y = absurd (x q y.0 y.1)
-picked_same F given (Some p) None x y = absurd (y p x.0 x.1)
-picked_same F given (Some p) (Some q) x y = let e : p ≡ q = omega (arith, x.2 q y.0 y.1, y.2 p x.0 x.1) in ap Some e
+use Rattle.views.proofs.Judgings.{judged_same}
+use Rattle.line.proofs.Moves.{made, tagged_line, told_hand, told_view}
 
 -- a refusal that carries nothing is known by its number
-of_number : ℕ → Refusal
-of_number n = get_or (BadPlan ∷ LooseCrews ∷ NoStation ∷ HandsFull ∷ BusFull ∷ BookFull ∷ NoTelegram ∷ NotOver ∷ StrangeTicket ∷ []) (n - 1) ShortStrip
-
-plain : (e : Refusal) → number e ≤ 9 → of_number (number e) ≡ e
-unfolding of_number
-plain BadPlan l = refl
-plain LooseCrews l = refl
-plain NoStation l = refl
-plain HandsFull l = refl
-plain BusFull l = refl
-plain BookFull l = refl
-plain NoTelegram l = refl
-plain NotOver l = refl
-plain StrangeTicket l = refl
-plain (BadWord place) l = absurd (omega arith)
-plain (BadValue place) l = absurd (omega arith)
-plain (BadTape inner place) l = absurd (omega arith)
-plain ShortStrip l = absurd (omega arith)
+plain_same : (e f : Refusal) → number e ≤ 9 → number e ≡ number f → e ≡ f
+plain_same e f l same = grind (arith, common_steps)
 
 module _ {V : Type 0} where
   refused_one : {R : Type 0} (n : ℕ) → n ≤ 9 → (v : View V) → One {R = R} (Refused n v)
   refused_one n l v r s w x (e, re, ne, we) (f, rf, nf, wf) =
-      let same : e ≡ f = sym (plain e (omega (arith, ne))) ∙ ap of_number (ne ∙ sym nf) ∙ plain f (omega (arith, nf)) in
+      let same : e ≡ f = plain_same e f (omega (arith, ne)) (ne ∙ sym nf) in
       (re ∙ ap Err same ∙ sym rf, we ∙ sym wf)
 
   module _ {R : Type 0} where
     exact_one : (a : Result R Refusal) (b : View V) → One (λ r w. (r ≡ a) × (w ≡ b))
     exact_one a b r s w x p q = (p.0 ∙ sym q.0, p.1 ∙ sym q.1)
 
-    either_one : (A B : Result R Refusal → View V → Type 0) → One A → One B → ((r s : Result R Refusal) (w x : View V) → A r w → B s x → ⊥) → One (λ r w. A r w ⊎ B r w)
+    either_one : (A B : Result R Refusal → View V → Type 0) → One A → One B → ((r s : Result R Refusal) (w x : View V) → A r w → B s x → ⊥)
+        → One (λ r w. A r w ⊎ B r w)
     either_one A B a b apart r s w x (inl p) (inl q) = a r s w x p q
     either_one A B a b apart r s w x (inl p) (inr q) = absurd (apart r s w x p q)
     either_one A B a b apart r s w x (inr p) (inl q) = absurd (apart s r x w q p)
     either_one A B a b apart r s w x (inr p) (inr q) = b r s w x p q
 
-    at_one : {X : Type 0} (A : X → Result R Refusal → View V → Type 0) (i j : X) → i ≡ j → One (A i) → (r s : Result R Refusal) (w x : View V) → A i r w → A j s x → (r ≡ s) × (w ≡ x)
+    -- a refusal, or something that has one answer
+    refuse_or : (n : ℕ) → n ≤ 9 → (v : View V) (A B : Result R Refusal → View V → Type 0) → ((r : Result R Refusal) (w : View V) → A r w → Refused n v r w)
+        → One B
+        → ((r s : Result R Refusal) (w x : View V) → A r w → B s x → ⊥) → One (λ r w. A r w ⊎ B r w)
+    refuse_or n l v A B refused = either_one A B (λ r s w x p q. refused_one n l v r s w x (refused r w p) (refused s x q))
+
+    at_one : {X : Type 0} (A : X → Result R Refusal → View V → Type 0) (i j : X) → i ≡ j → One (A i) → (r s : Result R Refusal) (w x : View V) → A i r w
+        → A j s x → (r ≡ s) × (w ≡ x)
     at_one A i j e one r s w x p q = one r s w x p (subst (λ (z : _). A z s x) (sym e) q)
 
   loses_one : (v : View V) (place : ℕ) → One (Loses v place)
   loses_one v place =
-      either_one _ _ (λ r s w x p q. refused_one 7 (omega arith) v r s w x p.1 q.1)
+      refuse_or 7 (omega arith) v _ _ (λ r w p. p.1)
       (λ r s w x p q. (p.1 ∙ sym q.1, p.2 ∙ sym q.2))
       (λ r s w x p q. omega (arith, p.0, q.0))
 
   doubles_one : (v : View V) (place : ℕ) → One (Doubles v place)
   doubles_one v place =
-      either_one _ _ (λ r s w x p q. refused_one 7 (omega arith) v r s w x p.1 q.1)
-      (either_one _ _ (λ r s w x p q. refused_one 5 (omega arith) v r s w x p.3 q.3)
+      refuse_or 7 (omega arith) v _ _ (λ r w p. p.1)
+      (refuse_or 5 (omega arith) v _ _ (λ r w p. p.3)
       (λ r s w x p q.
-      let e = some_same (sym p.1 ∙ q.1) in
+      let e = same_Some _ _ (sym p.1 ∙ q.1) in
       (p.3 ∙ sym q.3, p.4 ∙ ap (λ (t : Telegram V). send v (t ∷ [])) e ∙ sym q.4))
       (λ r s w x p q. p.2 q.2))
-      (λ r s w x p. ⊎_elim (λ q. omega (arith, p.0, nth_below v.bus place _ q.1)) (λ q. omega (arith, p.0, nth_below v.bus place _ q.1)))
+      (λ r s w x p. ⊎_elim (λ q. omega (arith, p.0, slice_get_within v.bus place _ q.1)) (λ q. omega (arith, p.0, slice_get_within v.bus place _ q.1)))
 
   begins_one : (v : View V) (s : ℕ) (work : Work V) → One (Begins v s work)
   begins_one v s work =
-      either_one _ _ (λ r s w x p q. refused_one 3 (omega arith) v r s w x p.1 q.1)
-      (either_one _ _ (λ r s w x p q. refused_one 4 (omega arith) v r s w x p.1.1 q.1.1)
-      (either_one _ _ (λ r s w x p q. refused_one 5 (omega arith) v r s w x p.2.1 q.2.1)
-      (either_one _ _ (λ r s w x p q. refused_one 6 (omega arith) v r s w x p.3.1 q.3.1)
+      refuse_or 3 (omega arith) v _ _ (λ r w p. p.1)
+      (refuse_or 4 (omega arith) v _ _ (λ r w p. p.1.1)
+      (refuse_or 5 (omega arith) v _ _ (λ r w p. p.2.1)
+      (refuse_or 6 (omega arith) v _ _ (λ r w p. p.3.1)
       (λ r s w x p q. (p.4 ∙ sym q.4, p.5 ∙ sym q.5))
       (λ r s w x p q. p.3.0 q.3))
       (λ r s w x p. ⊎_elim (λ q. p.2.0 q.2) (λ q. p.2.0 q.2)))
@@ -156,7 +91,7 @@ module _ {V : Type 0} where
 
   -- tickets: a station has one job in hand, and a job that is over has one result
   same_hand : (v : View V) (s job : ℕ) (h k : Hand V) → InHand v s job h → InHand v s job k → h ≡ k
-  same_hand v s job h k p q = some_same (sym p.1 ∙ q.1)
+  same_hand v s job h k p q = same_Some _ _ (sym p.1 ∙ q.1)
 
   over_same : (stage : Stage V) (a b : Collected V) → Over stage a → Over stage b → a ≡ b
   over_same Querying a b p q = absurd p
@@ -166,8 +101,8 @@ module _ {V : Type 0} where
 
   collects_one : (v : View V) (s job : ℕ) → One (Collects v s job)
   collects_one v s job =
-      either_one _ _ (λ r s w x p q. refused_one 9 (omega arith) v r s w x p.1 q.1)
-      (either_one _ _ (λ r s w x p q. refused_one 8 (omega arith) v r s w x p.3 q.3)
+      refuse_or 9 (omega arith) v _ _ (λ r w p. p.1)
+      (refuse_or 8 (omega arith) v _ _ (λ r w p. p.3)
       (λ r s2 w x p q.
       let over = subst (λ (k : Hand V). Over k.stage q.2.0) (same_hand v s job q.0 p.0 q.1 p.1) q.2.1 in
       (p.2.2 ∙ ap Ok (over_same p.0.stage p.2.0 q.2.0 p.2.1 over) ∙ sym q.2.2, p.3 ∙ sym q.3))
@@ -176,23 +111,23 @@ module _ {V : Type 0} where
 
   gives_up_one : (v : View V) (s job : ℕ) → One (GivesUp v s job)
   gives_up_one v s job =
-      either_one _ _ (λ r s w x p q. refused_one 9 (omega arith) v r s w x p.1 q.1)
+      refuse_or 9 (omega arith) v _ _ (λ r w p. p.1)
       (either_one _ _ (λ r s w x p q. (p.3 ∙ sym q.3, p.4 ∙ sym q.4)) (λ r s w x p q. (p.3 ∙ sym q.3, p.4 ∙ sym q.4))
       (λ r s2 w x p q. p.2 q.2.0 (subst (λ (k : Hand V). Over k.stage q.2.0) (same_hand v s job q.0 p.0 q.1 p.1) q.2.1)))
       (λ r s2 w x p. ⊎_elim (λ q. p.0 q.0 q.1) (λ q. p.0 q.0 q.1))
 
   shelves_one : (v : View V) (s job : ℕ) → One (Shelves v s job)
   shelves_one v s job =
-      either_one _ _ (λ r s w x p q. refused_one 9 (omega arith) v r s w x p.1 q.1)
+      refuse_or 9 (omega arith) v _ _ (λ r w p. p.1)
       (λ r s2 w x p q. (p.2 ∙ sym q.2, p.3 ∙ ap (λ (h : Hand V). hold v s (with_shelf h true)) (same_hand v s job p.0 q.0 p.1 q.1) ∙ sym q.3))
       (λ r s2 w x p q. p.0 q.0 q.1)
 
   claims_one : (v : View V) (s : ℕ) → One (Claims v s)
   claims_one v s =
-      either_one _ _ (λ r s w x p q. refused_one 3 (omega arith) v r s w x p.1 q.1)
-      (either_one _ _ (λ r s w x p q. refused_one 9 (omega arith) v r s w x p.1.1 q.1.1)
+      refuse_or 3 (omega arith) v _ _ (λ r w p. p.1)
+      (refuse_or 9 (omega arith) v _ _ (λ r w p. p.1.1)
       (λ r s2 w x p q.
-      let e = some_same (sym p.1.1.0 ∙ q.1.1.0) in
+      let e = same_Some _ _ (sym p.1.1.0 ∙ q.1.1.0) in
       (p.1.2 ∙ ap (λ (h : Hand V). Ok (s, h.job)) e ∙ sym q.1.2, p.1.3 ∙ ap (λ (h : Hand V). hold v s (with_shelf h false)) e ∙ sym q.1.3))
       (λ r s2 w x p q. p.1.0 q.1.0 q.1.1))
       (λ r s2 w x p. ⊎_elim (λ q. p.0 q.0) (λ q. p.0 q.0))
@@ -211,7 +146,8 @@ module _ {V : Type 0} where
 
     second_one : (w : View V) (h : Hand V) (p : Pair V) (strikes : ℕ) → One (Second F before v t w h p strikes)
     second_one w h p strikes =
-        either_one _ _ (λ r s w x a b. exact_one _ _ r s w x a.1 b.1) (λ r s w x a b. refused_one 5 (omega arith) before r s w x a.1 b.1) (λ r s w x a b. b.0 a.0)
+        either_one _ _ (λ r s w x a b. exact_one _ _ r s w x a.1 b.1) (λ r s w x a b. refused_one 5 (omega arith) before r s w x a.1 b.1)
+        (λ r s w x a b. b.0 a.0)
 
     greatest_upto : (w : View V) (q g k : ℕ) → Greatest F before v t w q g → Greatest F before v t w q k → g ≤ k
     greatest_upto w q g k a b =
@@ -219,28 +155,24 @@ module _ {V : Type 0} where
 
     lowest_same : (w : View V) (q : ℕ) (tag : Tag) (p u : Pair V) → Lowest F before v t w q tag p → Lowest F before v t w q tag u → p ≡ u
     lowest_same w q tag p u a b =
-        ⊎_elim (λ here. some_same (sym a.2 ∙ ap (w.answers s) here ∙ b.2))
+        ⊎_elim (λ here. same_Some _ _ (sym a.2 ∙ ap (w.answers s) here ∙ b.2))
         (⊎_elim (λ less. absurd (b.4 a.0 p less a.1 a.2 a.3)) (λ more_than. absurd (a.4 b.0 u more_than b.1 b.2 b.3)))
         (cases_order a.0 b.0)
-
-    -- a write's pair, and the line with its row
-    abbrev made : V → ℕ → Pair V
-    made y g = record { tag = record { count = g + 1; owner = s }; value = y }
-
-    abbrev tagged : View V → Hand V → V → ℕ → View V
-    tagged w h y g = note (change w s (g + 1) (Some h) (w.answers s)) (tagged_row s h.job (made y g))
 
     tags_one : (w : View V) (h : Hand V) (y : V) (q : ℕ) → One (Tags F before v t w h y q)
     tags_one w h y q r s2 x z (g, most, a) (k, most2, b) =
         let e : g ≡ k = omega (arith, greatest_upto w q g k most most2, greatest_upto w q k g most2 most) in
         at_one (λ (i : ℕ). TagsAfter F before v t w h y i)
         g k e
-        (either_one _ _ (λ r s w x a b. exact_one _ _ r s w x a.1 b.1) (λ r s u x a b. second_one (tagged w h y g) h (made y g) 0 r s u x a.1 b.1) (λ r s w x a b. omega (arith, a.0, b.0)))
+        (either_one _ _ (λ r s w x a b. exact_one _ _ r s w x a.1 b.1)
+        (λ r r2 u x a b. second_one (tagged_line w s h y g) h (made s y g) 0 r r2 u x a.1 b.1)
+        (λ r s w x a b. omega (arith, a.0, b.0)))
         r s2 x z a b
 
     reads_one : (w : View V) (h : Hand V) (q : ℕ) (verdict : Verdict) (strikes : ℕ) → One (Reads F before v t w h q verdict strikes)
     reads_one w h q (OneTrip tag) strikes r s2 x z (p, low, a) (u, low2, b) =
-        at_one (λ (p : Pair V) r after. Answer F before v t answer.Ended (note (hold w s (at_stage h (Ended p 1 strikes))) (ended_row s h.job p 1 strikes)) r after)
+        at_one
+        (λ (p : Pair V) r after. Answer F before v t answer.Ended (note (hold w s (at_stage h (Ended p 1 strikes))) (ended_row s h.job p 1 strikes)) r after)
         p u (lowest_same w q tag p u low low2) (exact_one _ _) r s2 x z a b
     reads_one w h q (SecondTrip tag) strikes r s2 x z (p, low, a) (u, low2, b) =
         at_one (λ (p : Pair V). Second F before v t w h p strikes) p u (lowest_same w q tag p u low low2) (second_one w h p strikes) r s2 x z a b
@@ -253,24 +185,24 @@ module _ {V : Type 0} where
         (subst (λ (k : Verdict). Reads F before v t w h q k count s2 z) (sym e.0) b)
 
     -- either no quorum is picked, or one and the same
-    picked_one : (given : ℕ) (A : Result Delivered Refusal → View V → Type 0) (B : ℕ → Result Delivered Refusal → View V → Type 0) → One A → ((q : ℕ) → One (B q)) → One (λ r w. (Picked F given None × A r w) ⊎ ((q : ℕ) × Picked F given (Some q) × B q r w))
+    picked_one : (given : ℕ) (A : Result Delivered Refusal → View V → Type 0) (B : ℕ → Result Delivered Refusal → View V → Type 0) → One A
+        → ((q : ℕ) → One (B q)) → One (λ r w. (Picked F given None × A r w) ⊎ ((q : ℕ) × Picked F given (Some q) × B q r w))
     picked_one given A B one-a one_b =
         either_one _ _ (λ r s w x a b. one-a r s w x a.1 b.1)
-        (λ r s w x a b. at_one B a.0 b.0 (some_same (picked_same F given (Some a.0) (Some b.0) a.1 b.1)) (one_b a.0) r s w x a.2 b.2)
-        (λ r s w x a b. none_some b.0 (picked_same F given None (Some b.0) a.0 b.1))
+        (λ r s w x a b. at_one B a.0 b.0 (same_Some _ _ (picked_same F given (Some a.0) (Some b.0) a.1 b.1)) (one_b a.0) r s w x a.2 b.2)
+        (λ r s w x a b. cc (picked_same F given None (Some b.0) a.0 b.1))
 
     tells_one : (h : Hand V) (p : Pair V) → One (Tells F before v t h p)
     tells_one h p =
-        let told = bit_or h.told (2 ^ t.cabinet) in
-        let h1 : Hand V = record { job = h.job; work = h.work; told = told; stage = Querying; shelved = h.shelved } in
-        let w = change v s (last_of v s) (Some h1) (put (v.answers s) t.cabinet (Some p)) in
-        picked_one told _ (λ q. Chosen F before v t w h1 q h.work) (exact_one _ _) (λ q. chosen_one w h1 q h.work)
+        let w = told_view v t h p in
+        picked_one _ _ (λ q. Chosen F before v t w (told_hand t h) q h.work) (exact_one _ _) (λ q. chosen_one w (told_hand t h) q h.work)
 
     takes_one : (h : Hand V) (p : Pair V) (strikes took : ℕ) → One (Takes F before v t h p strikes took)
     takes_one h p strikes took = picked_one _ _ _ (exact_one _ _) (λ q. exact_one _ _)
 
     -- a telegram counts or does not
-    counts_one : (on : ℕ) (counted : ℕ) (A : Result Delivered Refusal → View V → Type 0) → One A → One (λ r w. ((on ≡ t.job) × (Member t.cabinet counted → ⊥) × A r w) ⊎ (((on ≡ t.job → ⊥) ⊎ Member t.cabinet counted) × Answer F before v t answer.Nothing v r w))
+    counts_one : (on : ℕ) (counted : ℕ) (A : Result Delivered Refusal → View V → Type 0) → One A
+        → One (λ r w. ((on ≡ t.job) × (Member t.cabinet counted → ⊥) × A r w) ⊎ (((on ≡ t.job → ⊥) ⊎ Member t.cabinet counted) × Answer F before v t answer.Nothing v r w))
     counts_one on counted A one =
         either_one _ _ (λ r s w x a b. one r s w x a.2 b.2) (λ r s w x a b. exact_one _ _ r s w x a.1 b.1)
         (λ r s w x a b. ⊎_elim (λ ne. ne a.0) (λ m. a.1 m) b.0)
@@ -300,13 +232,13 @@ module _ {V : Type 0} where
 
   delivers_one : (F : ℕ → Type 0) (v : View V) (place : ℕ) → One (Delivers F v place)
   delivers_one F v place =
-      either_one _ _ (λ r s w x p q. refused_one 7 (omega arith) v r s w x p.1 q.1)
-      (either_one _ _ (λ r s w x p q. refused_one 1 (omega arith) v r s w x p.3 q.3)
+      refuse_or 7 (omega arith) v _ _ (λ r w p. p.1)
+      (refuse_or 1 (omega arith) v _ _ (λ r w p. p.3)
       (λ r s w x p q.
-      at_one (λ (t : Telegram V). Handed F v (with_bus v (remove v.bus place)) t t.kind) p.0 q.0 (some_same (sym p.1 ∙ q.1))
+      at_one (λ (t : Telegram V). Handed F v (with_bus v (remove v.bus place)) t t.kind) p.0 q.0 (same_Some _ _ (sym p.1 ∙ q.1))
       (handed_one F v (with_bus v (remove v.bus place)) p.0 p.0.kind) r s w x p.3 q.3)
-      (λ r s w x p q. p.2 (subst (Fits v) (some_same (sym q.1 ∙ p.1)) q.2)))
-      (λ r s w x p. ⊎_elim (λ q. omega (arith, p.0, nth_below v.bus place _ q.1)) (λ q. omega (arith, p.0, nth_below v.bus place _ q.1)))
+      (λ r s w x p q. p.2 (subst (Fits v) (same_Some _ _ (sym q.1 ∙ p.1)) q.2)))
+      (λ r s w x p. ⊎_elim (λ q. omega (arith, p.0, slice_get_within v.bus place _ q.1)) (λ q. omega (arith, p.0, slice_get_within v.bus place _ q.1)))
 
 pub one_result : (V : Type 0) (F : ℕ → Type 0) → OneResult V F
 one_result V F = record {

@@ -1,5 +1,7 @@
 -- Sound memory stays sound: no call spoils the lengths, and rows owed stay free.
-use Rattle.std.proofs.Common.{◌≡◌, ℕ, zero, suc, ◌+◌, ◌-◌, ◌*◌, ◌^◌, ◌<◌, ◌≤◌, List, [], ◌∷◌, length, get_or, set, Some, Option, sym, refl, ap, ◌∙◌, subst, ⊎_elim, arith}
+use Rattle.std.proofs.Common.{◌≡◌, ℕ, ◌+◌, ◌-◌, ◌*◌, ◌^◌, ◌<◌, ◌≤◌, List, [], ◌∷◌, length, get_or, set, Some, Option, sym, refl, ap, ◌∙◌, subst, ⊎_elim, arith}
+use Rattle.std.proofs.lemmas.Grind.{common_steps}
+use Rattle.std.proofs.lemmas.List.Recursion.{is_sum_by}
 use Rattle.std.proofs.lemmas.List.{length-append, length-set, length-take-le}
 use Rattle.telegrams.specs.declared.Pair.{Pair}
 use Rattle.line.specs.declared.types.Collected.TheVariants as result
@@ -12,26 +14,22 @@ use Rattle.line.specs.declared.types.Stage.TheVariants.{Querying, Setting, Ended
 use Rattle.line.specs.declared.types.Station.{Station}
 use Rattle.line.specs.declared.types.Work.{Work}
 use Rattle.line.specs.declared.types.Work.TheVariants.{Write, Read}
-use Rattle.line.specs.Lines.{View, hand_of, idle, owed, owed_by, owed_in}
+use Rattle.line.specs.Lines.{IsStation, View, hand_of, idle, owed, owed_by, owed_in}
 use Rattle.line.specs.Seen.{seen}
 use Rattle.line.specs.Memories.{Calls, Lends, Sound, more, none}
 use Rattle.line.specs.Runs.{Event, Moment, Run, Step}
 use Rattle.line.specs.Runs as run
 use Rattle.line.specs.Steps.{Unfinished}
-use Rattle.line.proofs.Shapes.{Like, Noted, Quiet, Shape, begun_row, ended_row_of, freed, given_row_of, kept, noted, quiet, spent_row_of, step_outcome, still, tagged_row_of, took_row_of, trip}
+use Rattle.line.proofs.Shapes.{Like, Noted, Quiet, Same, Shape, begun_row, ended_row_of, freed, given_row_of, kept, like_lasts, noted, quiet, spent_row_of, step_outcome, still, tagged_row_of, took_row_of, trip}
 
 module _ {V : Type 0} where
   -- rows owed after one station's record has changed
-  pub owed_set : (xs : List (Station V)) (i : ℕ) (st : Station V) → i < length xs → owed (set xs i st) + owed_in (get_or xs i idle).hand ≡ owed xs + owed_in st.hand
-  owed_set [] i st l = absurd (omega arith)
-  owed_set (x ∷ xs) zero st l = omega arith
-  owed_set (x ∷ xs) (suc i) st l = omega (arith, owed_set xs i st (omega arith))
+  pub owed_set : (xs : List (Station V)) (i : ℕ) (st : Station V) → i < length xs
+      → owed (set xs i st) + owed_in (get_or xs i idle).hand ≡ owed xs + owed_in st.hand
+  owed_set xs i st l = grind (arith, common_steps, is_sum_by {X = Station V} owed (λ (s : Station V). owed_in s.hand) refl (λ _ _. refl))
 
   owed_like : (work : Work V) (a b : Stage V) → Like a b → owed_by work a ≡ owed_by work b
-  owed_like work Querying b e = ap (owed_by work) (sym e)
-  owed_like work (Setting p strikes took) b e = ap (owed_by work) (sym e.1)
-  owed_like work (Ended p trips strikes) b e = ap (owed_by work) (sym e)
-  owed_like work Spent b e = ap (owed_by work) (sym e)
+  owed_like work a b like = like_lasts (λ (c : Stage V). owed_by work a ≡ owed_by work c) (λ p strikes took counted e. e) a b like refl
 
   pub owed_unfinished : (work : Work V) (a : Stage V) → Unfinished a → 1 ≤ owed_by work a
   owed_unfinished (Write x) Querying u = omega arith
@@ -42,7 +40,8 @@ module _ {V : Type 0} where
   owed_unfinished work Spent u = absurd (u result.Spent refl)
 
   -- what is owed for a hand, by its work and stage
-  owed_is : (hand : Option (Hand V)) (k : Hand V) (work : Work V) (stage : Stage V) → hand ≡ Some k → k.work ≡ work → k.stage ≡ stage → owed_in hand ≡ owed_by work stage
+  owed_is : (hand : Option (Hand V)) (k : Hand V) (work : Work V) (stage : Stage V) → hand ≡ Some k → k.work ≡ work → k.stage ≡ stage
+      → owed_in hand ≡ owed_by work stage
   owed_is hand k work stage e f g = ap owed_in e ∙ (λ i. owed_by (f i) (g i))
 
   pub setting_owes : (work : Work V) (p : Pair V) (strikes took : ℕ) → owed_by work (Setting p strikes took) ≡ 1
@@ -54,57 +53,63 @@ module _ {V : Type 0} where
   ended_owes Read p trips strikes = refl
 
   module _ (v : View V) where
+    -- what was owed for a job and what is, by its work and its two stages
+    own_owes : (s : ℕ) (hand : Option (Hand V)) (h k : Hand V) → Same v s h k → hand ≡ Some k → (work : Work V) → h.work ≡ work → (a b : Stage V)
+        → h.stage ≡ a → k.stage ≡ b → (owed_in (hand_of v s) ≡ owed_by work a) × (owed_in hand ≡ owed_by work b)
+    own_owes s hand h k same is work works a b now next =
+        (owed_is (hand_of v s) h work a same.held works now, owed_is hand k work b is (same.work ∙ works) next)
+
     quiet_owes : (s : ℕ) (hand : Option (Hand V)) → Quiet v s hand → owed_in hand ≤ owed_in (hand_of v s)
     quiet_owes s hand (freed h held got over is) = subst (λ (x : Option (Hand V)). owed_in x ≤ owed_in (hand_of v s)) (sym is) (omega arith)
     quiet_owes s hand (kept h k same is like) =
-        let before = owed_is (hand_of v s) h h.work h.stage same.held refl refl in
-        let after = owed_is hand k h.work k.stage is same.work refl in
-        omega (arith, owed_like h.work h.stage k.stage like)
+        let o = own_owes s hand h k same is h.work refl h.stage k.stage refl refl in
+        omega (arith, o.0, o.1, owed_like h.work h.stage k.stage like)
     quiet_owes s hand (trip h k same is work stage p strikes next) =
-        let before = owed_is (hand_of v s) h Read Querying same.held work stage in
-        let after = owed_is hand k Read (Setting p strikes 0) is (same.work ∙ work) next in
-        omega arith
+        let o = own_owes s hand h k same is Read work Querying (Setting p strikes 0) stage next in
+        omega (arith, o.0, o.1)
 
     -- a row that joins was owed, or was free beyond those owed
-    noted_owes : (e : Event V) (s : ℕ) (hand : Option (Hand V)) (row : Row V) → Noted v e s hand row → length v.journal + owed v.stations ≤ v.journal_places → length v.journal + 1 + owed_in hand + owed v.stations ≤ v.journal_places + owed_in (hand_of v s)
+    noted_owes : (e : Event V) (s : ℕ) (hand : Option (Hand V)) (row : Row V) → Noted v e s hand row → length v.journal + owed v.stations ≤ v.journal_places
+        → length v.journal + 1 + owed_in hand + owed v.stations ≤ v.journal_places + owed_in (hand_of v s)
     noted_owes e s hand row (begun_row (Write x) k empty free event is job works stage rows) l = omega (arith, owed_is hand k (Write x) Querying is works stage)
     noted_owes e s hand row (begun_row Read k empty free event is job works stage rows) l = omega (arith, owed_is hand k Read Querying is works stage)
     noted_owes e s hand row (tagged_row_of h k same is x work stage p next trips rows) l =
-        let before = owed_is (hand_of v s) h (Write x) Querying same.held work stage in
-        let after = owed_is hand k (Write x) (Setting p 0 0) is (same.work ∙ work) next in
-        omega arith
+        let o = own_owes s hand h k same is (Write x) work Querying (Setting p 0 0) stage next in
+        omega (arith, o.0, o.1)
     noted_owes e s hand row (ended_row_of h k same is work stage p strikes next rows) l =
-        let before = owed_is (hand_of v s) h Read Querying same.held work stage in
-        let after = owed_is hand k Read (Ended p 1 strikes) is (same.work ∙ work) next in
-        omega arith
+        let o = own_owes s hand h k same is Read work Querying (Ended p 1 strikes) stage next in
+        omega (arith, o.0, o.1)
     noted_owes e s hand row (took_row_of h k same is p strikes took stage next rows) l =
-        let before = owed_is (hand_of v s) h h.work (Setting p strikes took) same.held refl stage ∙ setting_owes h.work p strikes took in
-        let after = owed_is hand k h.work (Ended p 2 strikes) is same.work next ∙ ended_owes h.work p 2 strikes in
-        omega arith
+        let o = own_owes s hand h k same is h.work refl (Setting p strikes took) (Ended p 2 strikes) stage next in
+        omega (arith, o.0, o.1, setting_owes h.work p strikes took, ended_owes h.work p 2 strikes)
     noted_owes e s hand row (spent_row_of h k same is x work stage next rows) l =
-        let before = owed_is (hand_of v s) h (Write x) Querying same.held work stage in
-        let after = owed_is hand k (Write x) Spent is (same.work ∙ work) next in
-        omega arith
+        let o = own_owes s hand h k same is (Write x) work Querying Spent stage next in
+        omega (arith, o.0, o.1)
     noted_owes e s hand row (given_row_of h held unfinished is rows) l =
         let before = owed_is (hand_of v s) h h.work h.stage held refl refl in
         let after : owed_in hand ≡ 0 = ap owed_in is in
         omega (arith, owed_unfinished h.work h.stage unfinished)
 
+    set_owes : (s : ℕ) → IsStation v s → (st : Station V) → owed (set v.stations (s - 1) st) + owed_in (hand_of v s) ≡ owed v.stations + owed_in st.hand
+    set_owes s line st = owed_set v.stations (s - 1) st (omega (arith, line.0, line.1))
+
     -- the number of stations stays, and rows owed stay free
-    shape_rows : (e : Event V) (w : View V) → Shape v e w → (length w.stations ≡ length v.stations) × (length v.journal + owed v.stations ≤ v.journal_places → length w.journal + owed w.stations ≤ v.journal_places)
+    shape_rows : (e : Event V) (w : View V) → Shape v e w
+        → (length w.stations ≡ length v.stations)
+        × (length v.journal + owed v.stations ≤ v.journal_places → length w.journal + owed w.stations ≤ v.journal_places)
     shape_rows e w (still stations journal) = (
       ap (λ (xs : List (Station V)). length xs) stations,
       λ l. omega (arith, ap (λ (xs : List (Row V)). length xs) journal, ap owed stations),
     )
     shape_rows e w (quiet s st line stations journal q) = (
       ap (λ (xs : List (Station V)). length xs) stations ∙ length-set v.stations (s - 1) st,
-      λ l. omega (arith, ap (λ (xs : List (Row V)). length xs) journal, ap owed stations, owed_set v.stations (s - 1) st (omega (arith, line.0, line.1)), quiet_owes s st.hand q),
+      λ l. omega (arith, ap (λ (xs : List (Row V)). length xs) journal, ap owed stations, set_owes s line st, quiet_owes s st.hand q),
     )
     shape_rows e w (noted s st row line stations journal q) = (
       ap (λ (xs : List (Station V)). length xs) stations ∙ length-set v.stations (s - 1) st,
       λ l.
           let longer : length w.journal ≡ length v.journal + 1 = ap (λ (xs : List (Row V)). length xs) journal ∙ length-append v.journal (row ∷ []) in
-          omega (arith, ap owed stations, owed_set v.stations (s - 1) st (omega (arith, line.0, line.1)), noted_owes e s st.hand row q l),
+          omega (arith, ap owed stations, set_owes s line st, noted_owes e s st.hand row q l),
     )
 
   -- a step on sound memory leaves sound memory
@@ -135,7 +140,8 @@ module _ {V : Type 0} where
       )
 
   -- calls on sound memory are a run, and leave sound memory
-  pub runs : (n : ℕ) (F : ℕ → Type 0) (start m : Memory V) (ms : List (Moment V)) → Sound n start → Calls n F start ms m → Run F (seen start) ms (seen m) × Sound n m
+  pub runs : (n : ℕ) (F : ℕ → Type 0) (start m : Memory V) (ms : List (Moment V)) → Sound n start → Calls n F start ms m
+      → Run F (seen start) ms (seen m) × Sound n m
   runs n F start m ms sound none = (run.none, sound)
   runs n F start m ms sound (more {m = before} {e = e} calls call) =
       let r = runs n F start before _ sound calls in

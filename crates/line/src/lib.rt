@@ -37,16 +37,15 @@ pub fn suits<V>(n: u8, count: u32, m: &Memory<'_, V>) -> bool
 
 // Rows owed for a job in hand: 2 for a write still querying, 1 for any other unfinished job.
 fn owed_by<V>(hand: &Option<Hand<V>>) -> usize
-    ensures { (result ≡ owed_in hand.now) × (result ≤ 2) }
+    ensures owed { result ≡ owed_in hand.now }
+    ensures few { result ≤ 2 }
 {
     match hand {
         None => 0,
         Some(h) => match (&h.work, &h.stage) {
             (Work::Write(_), Stage::Querying) => 2,
-            (Work::Read, Stage::Querying) => 1,
-            (_, Stage::Setting { .. }) => 1,
-            (_, Stage::Ended { .. }) => 0,
-            (_, Stage::Spent) => 0,
+            (Work::Read, Stage::Querying) | (_, Stage::Setting { .. }) => 1,
+            (_, Stage::Ended { .. } | Stage::Spent) => 0,
         },
     }
 }
@@ -63,55 +62,31 @@ fn rows_owed<V>(stations: &[Station<V>]) -> usize
     rows
 }
 
-// Judges the memory for a line of n cabinets.
-fn check_rows<V>(n: u8, m: &Memory<'_, V>) -> Result<usize, Refusal>
-    ensures { Judges n m.now result }
-{
-    if !suits(n, m.first.count, m) || m.sent > m.bus.len() {
-        return Err(Refusal::BadPlan);
-    }
-    let taken = rows_owed(m.stations).saturating_add(m.written);
-    if taken > m.journal.len() {
-        return Err(Refusal::BadPlan);
-    }
-    Ok(m.journal.len() - taken)
-}
-
 // Judges the memory as every call does first: the rows that are free beyond those owed, or refusal 1.
 pub fn check<V, S: QuorumSystem>(system: &S, m: &Memory<'_, V>) -> Result<usize, Refusal>
     ensures sound { Judges (S.size system.now) m.now result }
 {
-    check_rows(system.cabinets(), m)
+    if !suits(system.cabinets(), m.first.count, m) || m.sent > m.bus.len() {
+        return Err(Refusal::BadPlan);
+    }
+    let taken = rows_owed(m.stations).saturating_add(m.written);
+    m.journal.len().checked_sub(taken).ok_or(Refusal::BadPlan)
 }
 
-// Whether the lengths, the two ends and the first count suit a line of n cabinets.
-fn fits<V>(n: u8, m: &Memory<'_, V>) -> Result<(), Refusal>
-    ensures { MatchResult result (λ _. Sized n m.now) (λ e. (number e ≡ 1) × (Sized n m.now → ⊥)) }
-{
-    let n = usize::from(n);
-    let stations = m.stations.len();
-    if m.first.count > MAX_COUNT || m.replicas.len() != n || stations < 1 || stations > 32 {
-        return Err(Refusal::BadPlan);
-    }
-    if m.answers.len() != n * stations {
-        return Err(Refusal::BadPlan);
-    }
-    if m.bus.len() < n || m.bus.len() > 1024 || m.sent > m.bus.len() {
-        return Err(Refusal::BadPlan);
-    }
-    if m.journal.len() < 3 || m.journal.len() > 4096 || m.written > m.journal.len() {
-        return Err(Refusal::BadPlan);
-    }
-    Ok(())
-}
-
-// Whether the memory lent suits a line of the system's cabinets.
+// Whether the memory lent suits a line of the system's cabinets. Beside `check`, since it asks nothing of the rows owed.
 pub fn check_sizes<V, S: QuorumSystem>(system: &S, m: &Memory<'_, V>) -> Result<(), Refusal>
     ensures sizes { MatchResult result (λ _. Sized (S.size system.now) m.now) (λ e. (number e ≡ 1) × (Sized (S.size system.now) m.now → ⊥)) }
     ensures order { (first : First V) (stations bus_places journal_places : ℕ) → OrderOfJobs (S.quorum system.now) first (S.size system.now) stations bus_places journal_places }
     ensures single { OneResult V (S.quorum system.now) }
 {
-    fits(system.cabinets(), m)
+    if suits(system.cabinets(), m.first.count, m)
+        && m.sent <= m.bus.len()
+        && m.written <= m.journal.len()
+    {
+        Ok(())
+    } else {
+        Err(Refusal::BadPlan)
+    }
 }
 
 // Does nothing. Its contract holds the theorems about the steps, for every kind of value and every quorum system: the order

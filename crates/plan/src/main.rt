@@ -3,7 +3,7 @@
 
 mod text;
 
-use anyhow::anyhow;
+use anyhow::{Context, anyhow, bail, ensure};
 use quorums::QuorumSystem;
 use quorums::grid::Grid;
 use quorums::majority::Majority;
@@ -11,7 +11,7 @@ use quorums::sets::has;
 use quorums::table::Table;
 use std::alloc::Global;
 use std::env;
-use text::{parse_set, parse_tag, show_set};
+use text::{CabinetSet, ToldTag};
 use views::{Verdict, judge};
 use words::refusal::Refusal;
 use words::tag::Tag;
@@ -20,12 +20,15 @@ const USAGE: &str =
     "usage: plan majority N | table N SET.. | grid ROWS COLUMNS, with requests on standard input";
 
 // The quorum that the system picks from the set.
-fn pick_line<S: QuorumSystem>(heap: Global, system: &S, set: u16) -> anyhow::Result<String> {
-    let given = show_set(heap, set)?;
-    match system.pick(set) {
-        Some(q) => {
-            let members = show_set(heap, q)?;
-            Ok(format!(in heap; "pick {given}: {members}, number {q}")?)
+fn pick_line<S: QuorumSystem>(
+    heap: Global,
+    system: &S,
+    given: CabinetSet,
+) -> anyhow::Result<String> {
+    match system.pick(given.0) {
+        Some(number) => {
+            let q = CabinetSet(number);
+            Ok(format!(in heap; "pick {given}: {q}, number {number}")?)
         }
         None => Ok(format!(in heap; "pick {given}: none")?),
     }
@@ -35,59 +38,38 @@ fn pick_line<S: QuorumSystem>(heap: Global, system: &S, set: u16) -> anyhow::Res
 fn read_line<S: QuorumSystem>(
     heap: Global,
     system: &S,
-    q: u16,
+    q: CabinetSet,
     told: &[Tag],
 ) -> anyhow::Result<String> {
     let mut tags = [Tag { count: 0, owner: 0 }; 16];
-    let mut next = 0usize;
-    for k in 0..16u8 {
-        if has(q, k) {
-            let Some(tag) = told.get(next) else {
-                return Err(anyhow!("a tag is wanted for each member"));
-            };
-            tags[usize::from(k)] = *tag;
-            next = next.saturating_add(1);
+    let mut told = told.iter();
+    for (k, tag) in (0..16u8).zip(&mut tags) {
+        if has(q.0, k) {
+            *tag = *told.next().context("a tag is wanted for each member")?;
         }
     }
-    if next != told.len() {
-        return Err(anyhow!("a tag is wanted for each member, and no more"));
-    }
-    let members = show_set(heap, q)?;
-    match judge(system, q, &tags) {
-        Some((Verdict::OneTrip(tag), strikes)) => {
-            let Tag { count, owner } = tag;
-            Ok(format!(in heap;
-                "read {members}: one trip with {count}.{owner}, strikes {strikes}"
-            )?)
-        }
-        Some((Verdict::SecondTrip(tag), strikes)) => {
-            let Tag { count, owner } = tag;
-            Ok(format!(in heap;
-                "read {members}: second trip with {count}.{owner}, strikes {strikes}"
-            )?)
-        }
-        None => Err(anyhow!("nobody told a tag")),
-    }
+    ensure!(
+        told.next().is_none(),
+        "a tag is wanted for each member, and no more"
+    );
+    let (trip, tag, strikes) = match judge(system, q.0, &tags) {
+        Some((Verdict::OneTrip(tag), strikes)) => ("one trip", tag, strikes),
+        Some((Verdict::SecondTrip(tag), strikes)) => ("second trip", tag, strikes),
+        None => bail!("nobody told a tag"),
+    };
+    let tag = ToldTag(tag);
+    Ok(format!(in heap; "read {q}: {trip} with {tag}, strikes {strikes}")?)
 }
 
-// The answer to one request.
+// The answer to one request. Its verb stands here alone, so an enum of verbs would only be matched again.
 fn answer<S: QuorumSystem>(heap: Global, system: &S, request: &str) -> anyhow::Result<String> {
     let mut words = request.split_whitespace();
-    let Some(verb) = words.next() else {
-        return Err(anyhow!("an empty request"));
-    };
-    let Some(name) = words.next() else {
-        return Err(anyhow!("a request wants a set"));
-    };
-    let Some(set) = parse_set(name) else {
-        return Err(anyhow!("a set is cabinets from 0 to 15 with commas between, or -"));
-    };
+    let verb = words.next().context("an empty request")?;
+    let name = words.next().context("a request wants a set")?;
+    let set = name.parse::<CabinetSet>()?;
     let mut tags = Vec::new(heap);
     for word in words {
-        let Some(tag) = parse_tag(word) else {
-            return Err(anyhow!("a tag is COUNT.OWNER"));
-        };
-        tags.push(tag)?;
+        tags.push(word.parse::<ToldTag>()?.0)?;
     }
     match verb {
         "pick" => pick_line(heap, system, set),
@@ -111,49 +93,39 @@ fn refused(e: Refusal) -> anyhow::Error {
 }
 
 fn number(word: Option<&String>) -> anyhow::Result<u8> {
-    let Some(word) = word else {
-        return Err(anyhow!(USAGE));
-    };
+    let word = word.context(USAGE)?;
     Ok(word.as_str().parse::<u8>()?)
 }
 
+// Serves with the system that the arguments name. A match on the name is plainer than an enum of systems, since each arm makes a
+// value of a type of its own.
 fn run(rt: &HostRuntime) -> anyhow::Result<()> {
-    let heap = rt.alloc();
-    let args: Vec<String> = env::args(rt)?.collect(heap)?;
-    let words = args.as_slice();
-    let Some(name) = words.get(1) else {
-        return Err(anyhow!(USAGE));
-    };
+    let args: Vec<String> = env::args(rt)?.collect(rt.alloc())?;
+    let mut words = args.iter().skip(1);
+    let name = words.next().context(USAGE)?;
     match name.as_str() {
-        "majority" => match Majority::new(number(words.get(2))?) {
-            Ok(system) => serve(rt, &system),
-            Err(e) => Err(refused(e)),
-        },
-        "grid" => {
-            let rows = number(words.get(2))?;
-            let columns = number(words.get(3))?;
-            match Grid::new(rows.saturating_mul(columns), rows, columns) {
-                Ok(system) => serve(rt, &system),
-                Err(e) => Err(refused(e)),
-            }
+        "majority" => {
+            let cabinets = number(words.next())?;
+            serve(rt, &Majority::new(cabinets).map_err(refused)?)
         }
-        "table" => table(rt, number(words.get(2))?, words),
+        "grid" => {
+            let rows = number(words.next())?;
+            let columns = number(words.next())?;
+            let cabinets = rows.saturating_mul(columns);
+            serve(rt, &Grid::new(cabinets, rows, columns).map_err(refused)?)
+        }
+        "table" => {
+            let cabinets = number(words.next())?;
+            let mut quorums = Vec::new(rt.alloc());
+            for word in words {
+                let Ok(set) = word.as_str().parse::<CabinetSet>() else {
+                    bail!(USAGE)
+                };
+                quorums.push(set.0)?;
+            }
+            serve(rt, &Table::new(cabinets, quorums).map_err(refused)?)
+        }
         _ => Err(anyhow!(USAGE)),
-    }
-}
-
-// The table of the sets from the fourth word on.
-fn table(rt: &HostRuntime, cabinets: u8, words: &[String]) -> anyhow::Result<()> {
-    let mut quorums = Vec::new(rt.alloc());
-    for word in words.iter().skip(3) {
-        let Some(set) = parse_set(word.as_str()) else {
-            return Err(anyhow!(USAGE));
-        };
-        quorums.push(set)?;
-    }
-    match Table::new(cabinets, quorums) {
-        Ok(system) => serve(rt, &system),
-        Err(e) => Err(refused(e)),
     }
 }
 

@@ -1,54 +1,67 @@
-// Sets and tags as text.
+// Sets of cabinets and tags as text.
+use anyhow::{Context, bail};
 use quorums::sets::{has, with};
-use std::alloc::{AllocError, Global};
+use std::fmt;
+use std::str::FromStr;
 use words::tag::Tag;
 
-// Cabinets from 0 to 15 with commas between, or - for the empty set.
-pub(crate) fn parse_set(text: &str) -> Option<u16> {
-    let mut set = 0u16;
-    if text == "-" {
-        return Some(set);
-    }
-    for word in text.split(',') {
-        match word.parse::<u8>() {
-            Ok(k) => {
-                if k > 15 {
-                    return None;
-                }
-                set = with(set, k);
-            }
-            Err(_) => return None,
+// A set of cabinets: those from 0 to 15 with commas between, or - for the empty set.
+#[derive(Clone, Copy, PartialEq, Eq, Debug)]
+pub(crate) struct CabinetSet(pub(crate) u16);
+
+impl FromStr for CabinetSet {
+    type Err = anyhow::Error;
+
+    fn from_str(text: &str) -> anyhow::Result<CabinetSet> {
+        if text == "-" {
+            return Ok(CabinetSet(0));
         }
+        let mut set = 0;
+        for word in text.split(',') {
+            match word.parse::<u8>() {
+                Ok(k @ 0..=15) => set = with(set, k),
+                _ => bail!("a set is cabinets from 0 to 15 with commas between, or -"),
+            }
+        }
+        Ok(CabinetSet(set))
     }
-    Some(set)
 }
 
-// COUNT.OWNER
-pub(crate) fn parse_tag(text: &str) -> Option<Tag> {
-    let (count, owner) = text.split_once('.')?;
-    let Ok(count) = count.parse::<u32>() else {
-        return None;
-    };
-    let Ok(owner) = owner.parse::<u8>() else {
-        return None;
-    };
-    Some(Tag { count, owner })
+impl fmt::Display for CabinetSet {
+    fn fmt<W: fmt::Write>(&self, f: &mut fmt::Formatter<W>) -> fmt::Result {
+        let mut members = (0..16u8).filter(|k| has(self.0, *k));
+        let Some(first) = members.next() else {
+            return f.write_str("-");
+        };
+        write!(f, "{first}")?;
+        for k in members {
+            write!(f, ",{k}")?;
+        }
+        Ok(())
+    }
 }
 
-// The members with commas between, or - for the empty set.
-pub(crate) fn show_set(heap: Global, set: u16) -> Result<String, AllocError> {
-    let mut text = String::new(heap);
-    for k in 0..16u8 {
-        if has(set, k) {
-            if !text.is_empty() {
-                text.push_str(",")?;
-            }
-            let word = format!(in heap; "{k}")?;
-            text.push_str(word.as_str())?;
-        }
+// A tag that a cabinet told: COUNT.OWNER.
+#[derive(Clone, Copy, PartialEq, Eq, Debug)]
+pub(crate) struct ToldTag(pub(crate) Tag);
+
+impl FromStr for ToldTag {
+    type Err = anyhow::Error;
+
+    fn from_str(text: &str) -> anyhow::Result<ToldTag> {
+        let tag = text.split_once('.').and_then(|(count, owner)| {
+            Some(Tag {
+                count: count.parse().ok()?,
+                owner: owner.parse().ok()?,
+            })
+        });
+        tag.map(ToldTag).context("a tag is COUNT.OWNER")
     }
-    if text.is_empty() {
-        text.push_str("-")?;
+}
+
+impl fmt::Display for ToldTag {
+    fn fmt<W: fmt::Write>(&self, f: &mut fmt::Formatter<W>) -> fmt::Result {
+        let Tag { count, owner } = self.0;
+        write!(f, "{count}.{owner}")
     }
-    Ok(text)
 }

@@ -1,1 +1,4 @@
+pub mod Tests
 pub mod Picks
+pub mod Gathers
+pub mod Crossings

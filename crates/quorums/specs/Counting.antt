@@ -1,7 +1,7 @@
 -- How many members sets have: inside one another, and two together.
 use Rattle.std.specs.Prelude.{◌≡◌, ℕ, suc, ◌+◌, ◌/◌, ◌%◌, ◌^◌, ◌≤◌, bit_and, bit_or, refl}
 use Rattle.std.proofs.Common.{◌∙◌, sym, ap, ⊎_elim, mod-lt, arith}
-use Rattle.std.proofs.lemmas.Nat.{pow_pos, ones_cat}
+use Rattle.std.proofs.lemmas.Nat.{pow_pos, ones_cat, zero_from_ones}
 use Rattle.std.proofs.Math.Arith.{bin_ind}
 use Rattle.std.specs.Int.Bits.{and_step, or_step, and_zero_l, or_zero_l}
 use Rattle.std.specs.Int.Count.{ones, ones_in, ones_step}
@@ -28,14 +28,10 @@ inside_ones = bin_ind (λ s. (t : ℕ) → Inside s t → ones s ≤ ones t) (λ
     (λ s ih t h.
     omega (arith, lowest s t h, ones_step s, ones_step t, ih (t / 2) (halves s t h)))
 
-ones_none : (t : ℕ) → ones t ≡ 0 → t ≡ 0
-ones_none = bin_ind (λ t. ones t ≡ 0 → t ≡ 0) (λ h. refl)
-    (λ t ih h. let half : t / 2 ≡ 0 = ih (omega (arith, ones_step t)) in omega (arith, ones_step t))
-
 -- a set inside another of as many members is that other
 pub inside_same : (s t : ℕ) → Inside s t → ones s ≡ ones t → s ≡ t
 inside_same = bin_ind (λ s. (t : ℕ) → Inside s t → ones s ≡ ones t → s ≡ t)
-    (λ t h e. sym (ones_none t (sym e ∙ ones_zero)))
+    (λ t h e. sym (zero_from_ones t (sym e ∙ ones_zero)))
     (λ s ih t h e.
     let low = lowest s t h in
     let less = inside_ones (s / 2) (t / 2) (halves s t h) in

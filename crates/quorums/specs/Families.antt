@@ -25,5 +25,5 @@ GridOf r c s =
     × Those (λ k. (k / c ≡ row) ⊎ (k % c ≡ column)) (r * c) s
 
 -- of n cabinets in c columns, the row and the column that cross at a cabinet
-abbrev pub CrossOf : ℕ → ℕ → ℕ → ℕ → Type 0
+unfoldable pub CrossOf : ℕ → ℕ → ℕ → ℕ → Type 0
 CrossOf n c at s = Those (λ k. (k / c ≡ at / c) ⊎ (k % c ≡ at % c)) n s

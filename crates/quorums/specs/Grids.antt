@@ -17,11 +17,17 @@ known c at k =
     (cases_eq (k / c) (at / c))
 
 pub cross_some : (c at n : ℕ) → (s : ℕ) × CrossOf n c at s
+unfolding CrossOf
 cross_some c at n = those_some (Taken c at) (known c at) n
+
+pub cross_same : (n c at s t : ℕ) → CrossOf n c at s → CrossOf n c at t → s ≡ t
+unfolding CrossOf
+cross_same n c at s t = those_same (Taken c at) n s t
 
 module _ (r c : ℕ) where
   -- a quorum is the crossing at the cabinet of its row and column
   pub grid_cross : (s : ℕ) → GridOf r c s → (at : ℕ) × (at < r * c) × CrossOf (r * c) c at s
+  unfolding CrossOf
   grid_cross s g =
       let at = g.0 * c + g.1 in
       let row = div-mul-add g.0 c g.1 g.3 in
@@ -35,9 +41,11 @@ module _ (r c : ℕ) where
       )
 
   pub cross_grid : (s at : ℕ) → 0 < c → at < r * c → CrossOf (r * c) c at s → GridOf r c s
+  unfolding CrossOf
   cross_grid s at pos h x = (at / c, at % c, div_below at c r pos h, mod_below at c pos, x)
 
   pub grid_member : (s : ℕ) → GridOf r c s → (k : ℕ) × Member k s
+  unfolding CrossOf
   grid_member s g = let x = grid_cross s g in (x.0, (x.2 x.0).1 (x.1, inl refl))
 
   -- the row of one and the column of the other cross
@@ -65,5 +73,5 @@ module _ (n c i s : ℕ) (x : CrossOf n c i s) where
   pub cross_cases : (t : ℕ) → CrossBelow n c (i + 1) t → CrossBelow n c i t ⊎ (t ≡ s)
   cross_cases t m =
       ⊎_elim (λ l. inl (m.0, l, m.2))
-      (λ l. let e : m.0 ≡ i = omega (arith, m.1) in inr (those_same (Taken c i) n t s (subst (λ (at : ℕ). CrossOf n c at t) e m.2) x))
+      (λ l. let e : m.0 ≡ i = omega (arith, m.1) in inr (cross_same n c i t s (subst (λ (at : ℕ). CrossOf n c at t) e m.2) x))
       (cases_lt m.0 i)

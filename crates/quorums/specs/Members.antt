@@ -1,12 +1,11 @@
 -- Sets of cabinets by their members: what `and`, `or` and a front of the bits hold, and when two are equal.
-use Rattle.std.specs.Prelude.{◌≡◌, ℕ, zero, suc, ◌+◌, ◌-◌, ◌*◌, ◌/◌, ◌%◌, ◌^◌, ◌<◌, ◌≤◌, min, max, Bool, true, false, cond, ◌⊎◌, MatchBool, nat_lt, refl}
-use Rattle.std.proofs.Common.{◌∙◌, sym, ap, subst, inl, inr, ⊎_elim, lt_of_lt_of_le, mod-eq_of_lt, mod-lt, arith, pow_mono}
-use Rattle.std.proofs.Math.Nat.{div-eq_of_lt}
+use Rattle.std.specs.Prelude.{◌≡◌, ℕ, zero, suc, ◌+◌, ◌-◌, ◌*◌, ◌/◌, ◌%◌, ◌^◌, ◌<◌, ◌≤◌, min, max, cond, ◌⊎◌, nat_lt}
+use Rattle.std.proofs.Common.{◌∙◌, sym, ap, subst, inl, inr, ⊎_elim, mod-eq_of_lt, mod-lt, arith, Bool, true, false, MatchBool, refl}
 use Rattle.std.proofs.Math.Arith.{bin_ind}
-use Rattle.std.specs.Int.Bits.{bit_and, bit_or, and_step, or_shifted_r, or_step}
-use Rattle.std.proofs.Math.Pow.{mod-mod-pow}
-use Rattle.std.proofs.lemmas.Nat.{and_mask, div-add-mod', div-mul-add, field_of, mod-pow-add, pow-add, pow_below, pow_pos, shr-shr, and_le_r, and_shr, or_shr}
-use Rattle.std.proofs.lemmas.Bool.{cases_eq, cases_lt, cases_order, cond-true, lt-ltb}
+use Rattle.std.specs.Int.Bits.{bit_and, bit_or, or_shifted_r}
+use Rattle.std.proofs.lemmas.Nat.{and_mask, div-add-mod', mod-pow-add, pow_pos, shr-shr, and_le_r}
+use Rattle.std.proofs.lemmas.Nat.Bits.{bit_at_above, bit_at_and, bit_at_cat_low, bit_at_or, bit_at-pow_other, bit_at-pow_same, bit_at-suc, bit_at-zero, same_from_bits}
+use Rattle.std.proofs.lemmas.Bool.{cases_eq, cases_lt, cond-true, lt-ltb}
 use Rattle.quorums.specs.Sets.{Member, Inside, Share, Those}
 
 -- the bit of a cabinet
@@ -14,32 +13,21 @@ abbrev pub bit : ℕ → ℕ → ℕ
 bit k s = s / 2 ^ k % 2
 
 pub bit_of_and : (a b k : ℕ) → bit k (bit_and a b) ≡ min (bit k a) (bit k b)
-bit_of_and a b k =
-    ap (λ (n : ℕ). n % 2) (and_shr a b k ∙ and_step (a / 2 ^ k) (b / 2 ^ k)) ∙ omega arith
+bit_of_and = bit_at_and
 
 pub bit_of_or : (a b k : ℕ) → bit k (bit_or a b) ≡ max (bit k a) (bit k b)
-bit_of_or a b k =
-    ap (λ (n : ℕ). n % 2) (or_shr a b k ∙ or_step (a / 2 ^ k) (b / 2 ^ k)) ∙ omega arith
+bit_of_or = bit_at_or
 
 -- the bit above, of half the number
 pub bit_half : (k s : ℕ) → bit k (s / 2) ≡ bit (suc k) s
-bit_half k s =
-    let up : 1 + k ≡ suc k = omega arith in
-    ap (λ (n : ℕ). n % 2) (shr-shr s 1 k ∙ ap (λ (n : ℕ). s / 2 ^ n) up)
+bit_half k s = sym (bit_at-suc s k)
 
 -- bits past the number are 0
 pub bit_high : (k s : ℕ) → s < 2 ^ k → bit k s ≡ 0
-bit_high k s h = ap (λ (n : ℕ). n % 2) (div-eq_of_lt h)
+bit_high k s h = bit_at_above s k k h (omega arith)
 
 none : (s : ℕ) → ((k : ℕ) → bit k s ≡ 0) → s ≡ 0
-none = bin_ind (λ s. ((k : ℕ) → bit k s ≡ 0) → s ≡ 0) (λ h. refl)
-    (λ s ih h. let half : s / 2 ≡ 0 = ih (λ k. bit_half k s ∙ h (suc k)) in let low : s / 1 % 2 ≡ 0 = h 0 in omega arith)
-
--- sets of the same bits are the same
-pub same : (s t : ℕ) → ((k : ℕ) → bit k s ≡ bit k t) → s ≡ t
-same = bin_ind (λ s. (t : ℕ) → ((k : ℕ) → bit k s ≡ bit k t) → s ≡ t)
-    (λ t h. sym (none t (λ k. sym (h k) ∙ bit_high k 0 (pow_pos k))))
-    (λ s ih t h. let half : s / 2 ≡ t / 2 = ih (t / 2) (λ k. bit_half k s ∙ h (suc k) ∙ sym (bit_half k t)) in let low : s / 1 % 2 ≡ t / 1 % 2 = h 0 in omega arith)
+none s h = same_from_bits s 0 (λ k. h k ∙ sym (bit_at-zero k))
 
 -- a set with a number above 0 has a member
 pub some : (s : ℕ) → 0 < s → (k : ℕ) × Member k s
@@ -52,7 +40,7 @@ member_or_not k s = ⊎_elim inl (λ no_one. inr (omega arith)) (cases_eq (bit k
 -- members of a set below 2^n are below n, and the other way round
 pub member_below : (n k s : ℕ) → s < 2 ^ n → Member k s → k < n
 member_below n k s h m =
-    ⊎_elim (λ l. l) (λ l. absurd (omega (arith, bit_high k s (lt_of_lt_of_le h (pow_mono l))))) (cases_lt k n)
+    ⊎_elim (λ l. l) (λ l. absurd (omega (arith, bit_at_above s n k h l))) (cases_lt k n)
 
 pub below : (n s : ℕ) → ((k : ℕ) → Member k s → k < n) → s < 2 ^ n
 below n s h =
@@ -67,7 +55,7 @@ inside_and s t e k m = omega (arith, bit_of_and s t k, ap (bit k) e)
 
 pub and_inside : (s t : ℕ) → Inside s t → bit_and s t ≡ s
 and_inside s t h =
-    same (bit_and s t) s
+    same_from_bits (bit_and s t) s
     (λ k. ⊎_elim (λ m. omega (arith, bit_of_and s t k, h k m)) (λ z. omega (arith, bit_of_and s t k)) (member_or_not k s))
 
 pub inside_le : (s t : ℕ) → Inside s t → s ≤ t
@@ -80,15 +68,8 @@ share_and s t h =
     (m.0, omega (arith, bit_of_and s t m.0, m.1), omega (arith, bit_of_and s t m.0, m.1))
 
 -- the front of a set: its members below n
-bit_front : (i j s : ℕ) → bit j (s % 2 ^ (suc i + j)) ≡ bit j s
-bit_front i j s =
-    let up : suc i ≡ i + 1 = omega arith in
-    ap (λ (x : ℕ). x % 2) (field_of s (suc i) j ∙ ap (λ (e : ℕ). s / 2 ^ j % 2 ^ e) up) ∙ mod-mod-pow (s / 2 ^ j) i 1
-
 pub front_member : (n j s : ℕ) → j < n → bit j (s % 2 ^ n) ≡ bit j s
-front_member n j s h =
-    let whole : suc (n - suc j) + j ≡ n = omega arith in
-    ap (λ (e : ℕ). bit j (s % 2 ^ e)) (sym whole) ∙ bit_front (n - suc j) j s
+front_member n j s h = sym (bit_at_cat_low (s / 2 ^ n) n (s % 2 ^ n) j h) ∙ ap (bit j) (div-add-mod' s (2 ^ n))
 
 pub front_inside : (n s : ℕ) → Inside (s % 2 ^ n) s
 front_inside n s k m = sym (front_member n k s (member_below n k (s % 2 ^ n) (mod-lt s (pow_pos n)) m)) ∙ m
@@ -104,34 +85,12 @@ front_more k s =
     ap (λ (e : ℕ). s % 2 ^ e) up ∙ mod-pow-add s 1 k
 
 -- the set of one cabinet
-pub one_member : (k : ℕ) → Member k (2 ^ k)
-one_member k =
-    let whole : 2 ^ k ≡ 1 * 2 ^ k + 0 = omega arith in
-    ap (λ (n : ℕ). n % 2) (ap (λ (n : ℕ). n / 2 ^ k) whole ∙ div-mul-add 1 (2 ^ k) 0 (pow_pos k))
-
-lower : (i j : ℕ) → bit j (2 ^ (suc i + j)) ≡ 0
-lower i j =
-    let whole : 2 ^ (suc i) * 2 ^ j ≡ 2 ^ (suc i) * 2 ^ j + 0 = omega arith in
-    let twice : 2 ^ (i + 1) ≡ 2 ^ i * 2 = pow-add 2 i 1 in
-    let up : suc i ≡ i + 1 = omega arith in
-    let double : 2 ^ (suc i) ≡ 2 ^ i * 2 = ap (λ (n : ℕ). 2 ^ n) up ∙ twice in
-    ap (λ (n : ℕ). n % 2)
-    (ap (λ (n : ℕ). n / 2 ^ j) (pow-add 2 (suc i) j ∙ whole) ∙ div-mul-add (2 ^ (suc i)) (2 ^ j) 0 (pow_pos j) ∙ double)
-    ∙ omega arith
-
 pub only_member : (k j : ℕ) → Member j (2 ^ k) → j ≡ k
-only_member k j m =
-    ⊎_elim (λ e. e)
-    (⊎_elim
-    (λ l.
-    let whole : suc (k - suc j) + j ≡ k = omega arith in
-    absurd (omega (arith, m, ap (λ (n : ℕ). bit j (2 ^ n)) (sym whole) ∙ lower (k - suc j) j)))
-    (λ l. absurd (omega (arith, m, bit_high j (2 ^ k) (pow_below k j l)))))
-    (cases_order j k)
+only_member k j m = ⊎_elim (λ e. e) (λ ne. absurd (omega (arith, m, bit_at-pow_other k j ne))) (cases_eq j k)
 
 -- a set with one cabinet more
 pub with_member : (s k : ℕ) → Member k (bit_or s (2 ^ k))
-with_member s k = omega (arith, bit_of_or s (2 ^ k) k, one_member k)
+with_member s k = omega (arith, bit_of_or s (2 ^ k) k, bit_at-pow_same k)
 
 pub with_kept : (s k j : ℕ) → Member j s → Member j (bit_or s (2 ^ k))
 with_kept s k j m = ⊎_elim (λ o. omega (arith, bit_of_or s (2 ^ k) j)) (λ z. omega (arith, bit_of_or s (2 ^ k) j)) (member_or_not j (2 ^ k))
@@ -200,7 +159,7 @@ module _ (P : ℕ → Type 0) where
   -- one set of those, and one only
   pub those_same : (n s t : ℕ) → Those P n s → Those P n t → s ≡ t
   those_same n s t p q =
-      same s t
+      same_from_bits s t
       (λ k.
       ⊎_elim (λ m. m ∙ sym ((q k).1 ((p k).0 m)))
       (λ z. ⊎_elim (λ m. absurd (omega (arith, (p k).1 ((q k).0 m)))) (λ y. z ∙ sym y) (member_or_not k t))

@@ -6,34 +6,30 @@ ghost use Rattle.quorums.specs.Families.{CrossOf, GridOf};
 ghost use Rattle.quorums.specs.Grids.{grid_member, grid_share, cross_grid, cross_some};
 ghost use Rattle.quorums.specs.Grids;
 
-use crate::sets::{is_inside, least, with};
-use crate::{MAX_CABINETS, QuorumSystem};
+use crate::QuorumSystem;
+use crate::cabinets::Cabinets;
+use crate::sets::{is_inside, with};
 use words::refusal::Refusal;
 
 // Cabinet k stands in row k ÷ columns and column k mod columns.
-#[derive(Clone, Copy)]
+#[derive(Clone, Copy, PartialEq, Eq, Debug)]
 pub struct Grid {
-    cabinets: u8,
+    cabinets: Cabinets,
     rows: u8,
     columns: u8,
-    ghost whole: { cabinets ≡ rows * columns },
-    ghost some: { 1 ≤ cabinets },
-    ghost most: { cabinets ≤ 16 },
+    ghost whole: { cabinets.count ≡ rows * columns },
 }
 
 impl Grid {
     // A grid of so many cabinets, 1 to 16, in rows and columns.
     pub fn new(cabinets: u8, rows: u8, columns: u8) -> Result<Grid, Refusal>
-        ensures { MatchResult result (λ g. (g.cabinets ≡ cabinets) × (g.rows ≡ rows) × (g.columns ≡ columns)) (λ e. (number e ≡ 1) × ((cabinets ≡ rows * columns) × (1 ≤ cabinets) × (cabinets ≤ 16) → ⊥)) }
+        ensures { MatchResult result (λ g. (g.cabinets.count ≡ cabinets) × (g.rows ≡ rows) × (g.columns ≡ columns)) (λ e. (number e ≡ 1) × ((cabinets ≡ rows * columns) × (1 ≤ cabinets) × (cabinets ≤ 16) → ⊥)) }
     {
         if u16::from(rows) * u16::from(columns) != u16::from(cabinets) {
             return Err(Refusal::BadPlan);
         }
-        if cabinets < 1 || cabinets > MAX_CABINETS {
-            return Err(Refusal::BadPlan);
-        }
         Ok(Grid {
-            cabinets,
+            cabinets: Cabinets::new(cabinets)?,
             rows,
             columns,
         })
@@ -41,24 +37,22 @@ impl Grid {
 
     // The row and the column that cross at a cabinet, together.
     fn cross(&self, at: u8) -> u16
-        ensures { CrossOf self.now.cabinets self.now.columns at result }
+        ensures { CrossOf self.now.cabinets.count self.now.columns at result }
     {
-        let mut s = 0u16;
-        for k in 0..self.cabinets {
-            if k / self.columns == at / self.columns || k % self.columns == at % self.columns {
-                s = with(s, k);
-            }
-        }
-        s
+        (0..self.cabinets.count())
+            .filter(|k| {
+                k / self.columns == at / self.columns || k % self.columns == at % self.columns
+            })
+            .fold(0, with)
     }
 }
 
 impl QuorumSystem for Grid {
-    ghost size = { λ g. g.cabinets };
+    ghost size = { λ g. g.cabinets.count };
 
     ghost quorum = { λ g. GridOf g.rows g.columns };
 
-    ghost sized = { λ g. (g.some, g.most) };
+    ghost sized = { λ g. (g.cabinets.some, g.cabinets.most) };
 
     ghost member = { λ g q m. grid_member g.rows g.columns q m };
 
@@ -68,22 +62,18 @@ impl QuorumSystem for Grid {
 
     ghost whole = { λ g.
         let n = g.rows * g.columns in
-        let some : 1 ≤ n = subst (λ (m : ℕ). 1 ≤ m) g.whole g.some in
+        let some : 1 ≤ n = subst (λ (m : ℕ). 1 ≤ m) g.whole g.cabinets.some in
         let first = cross_some g.columns 0 n in
         (first.0, cross_grid g.rows g.columns first.0 0 (Grids.columns g.rows g.columns some) some first.1) };
 
     fn cabinets(&self) -> u8 {
-        self.cabinets
+        self.cabinets.count()
     }
 
     fn pick(&self, given: u16) -> Option<u16> {
-        let mut best = None;
-        for at in 0..self.cabinets {
-            let s = self.cross(at);
-            if is_inside(s, given) {
-                best = Some(least(best, s));
-            }
-        }
-        best
+        (0..self.cabinets.count())
+            .map(|at| self.cross(at))
+            .filter(|s| is_inside(*s, given))
+            .min()
     }
 }

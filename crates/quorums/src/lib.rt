@@ -4,6 +4,7 @@
 ghost use Rattle.std.specs.Prelude.{◌≡◌, ℕ, ◌<◌, ◌≤◌};
 ghost use Rattle.quorums.specs.Sets.{Member, Share, Picked};
 
+pub mod cabinets;
 pub mod grid;
 pub mod majority;
 pub mod sets;

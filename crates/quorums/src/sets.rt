@@ -1,4 +1,4 @@
-// Sets of cabinets, by number: the sum of 2^k over the members k.
+// Sets of cabinets, by number: the sum of 2^k over the members k. The rules of the project give sets by their numbers.
 ghost use Rattle.std.specs.Prelude.{◌≡◌, ◌-◌, ◌^◌, min, if◌then◌else◌, MatchBool, bit_or, nat_lt};
 ghost use Rattle.quorums.specs.Sets.{Member, Inside, Share, Those, lesser};
 
@@ -41,21 +41,12 @@ pub fn all(cabinets: u8) -> u16
 pub fn least(best: Option<u16>, s: u16) -> u16
     ensures { result ≡ lesser best s }
 {
-    match best {
-        Some(b) => b.min(s),
-        None => s,
-    }
+    best.map_or(s, |b| b.min(s))
 }
 
 // Those of so many cabinets, at most 16, that are not in the set.
 pub fn outside(set: u16, cabinets: u8) -> u16
     ensures { Those (λ k. Member k set → ⊥) (min cabinets 16) result }
 {
-    let mut others = 0u16;
-    for k in 0..cabinets.min(16) {
-        if !has(set, k) {
-            others = with(others, k);
-        }
-    }
-    others
+    all(cabinets) & !set
 }

@@ -1,15 +1,12 @@
 -- The fields of a tag, to be written and as read.
 use Rattle.std.proofs.Common.{◌≡◌, ℕ, ◌^◌, ◌<◌, ◌≤◌, ltb, leb, [], ◌∷◌}
-use Rattle.std.proofs.lemmas.Bool.{cond-true, cond-false, lt-ltb, le-ltb, le-leb, lt-leb}
+use Rattle.std.proofs.lemmas.Bool.{cond-true, cond-false, lt-ltb, le-leb, lt-leb}
 use Rattle.words.specs.Judged.{Clean}
 use Rattle.telegrams.specs.Telegrams.{count_fault, owner_fault}
 use Rattle.words.specs.Judging.{clean_more, clean_none}
 
 pub count_good : (n : ℕ) → n < 2 ^ 28 → count_fault n ≡ 0
 count_good n h = cond-true (ltb n (2 ^ 28)) 0 10 (lt-ltb n (2 ^ 28) h)
-
-pub count_bad : (n : ℕ) → 2 ^ 28 ≤ n → count_fault n ≡ 10
-count_bad n h = cond-false (ltb n (2 ^ 28)) 0 10 (le-ltb n (2 ^ 28) h)
 
 pub owner_good : (n : ℕ) → n ≤ 32 → owner_fault n ≡ 0
 owner_good n h = cond-true (leb n 32) 0 10 (le-leb n 32 h)

@@ -1,8 +1,11 @@
 -- Telegrams: which there are, the run of words of each, and how words are judged.
-use Rattle.std.specs.Prelude.{◌≡◌, ℕ, ◌/◌, ◌%◌, ◌^◌, ◌<◌, ◌≤◌, Bool, cond, ◌&&◌, List, [], ◌∷◌, ◌++◌, length, take, Some, None, Ok, Err, Option, Result, ◌==◌, nat_le, nat_lt}
+use Rattle.std.specs.Prelude.{◌≡◌, ℕ, ◌/◌, ◌%◌, ◌^◌, ◌<◌, ◌≤◌, Bool, cond, ◌&&◌, List, [], ◌∷◌, ◌++◌, length, take, Some, None, Ok, Err, Option, Result, MatchResult, ◌==◌, nat_le, nat_lt}
 use Rattle.words.specs.declared.refusal.Refusal.{Refusal}
+use Rattle.words.specs.declared.refusal.Refusal.TheVariants.{BadWord}
 use Rattle.telegrams.specs.declared.Pair.{Pair}
 use Rattle.telegrams.specs.declared.Telegram.{Telegram}
+use Rattle.telegrams.specs.declared.HeadKind.{HeadKind}
+use Rattle.telegrams.specs.declared.HeadKind.TheVariants as heads
 use Rattle.telegrams.specs.declared.TelegramKind.{TelegramKind}
 use Rattle.telegrams.specs.declared.TelegramKind.TheVariants.{Query, Told, Set, Took}
 use Rattle.words.specs.declared.word.Head.{Head}
@@ -41,6 +44,17 @@ count_fault n = cond (nat_lt n (2 ^ 28)) 0 10
 
 abbrev pub owner_fault : ℕ → ℕ
 owner_fault n = cond (nat_le n 32) 0 10
+
+-- the numbers of the kinds of a head
+abbrev pub number_of : HeadKind → ℕ
+number_of heads.Query = 1
+number_of heads.Told = 2
+number_of heads.Set = 3
+number_of heads.Took = 4
+
+-- the kind with the number, or the refusal of a head with a number that no kind has
+abbrev pub Numbered : ℕ → Result HeadKind Refusal → Type 0
+Numbered n r = MatchResult r (λ kind. number_of kind ≡ n) (λ e. (e ≡ BadWord 0) × (¬ ((1 ≤ n) × (n ≤ 4))))
 
 module _ {V : Type 0} where
   abbrev pub kind_number : TelegramKind V → ℕ

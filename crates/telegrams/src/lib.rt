@@ -3,14 +3,15 @@
 
 ghost use Rattle.std.specs.Prelude.{◌≡◌, ◌+◌, ◌<◌, ◌≤◌, [], ◌∷◌, ◌++◌, length, take, drop, Some, MatchOption, MatchResult, slice_index};
 ghost use Rattle.words.specs.Judged.{judged, verdict, Faulted, Written};
-ghost use Rattle.words.specs.Words.{head_word};
-ghost use Rattle.telegrams.specs.Telegrams.{head_judge, tag_judges, IsHead, head_of, kind_number, pair_of, pair_run, telegram_run, telegram_faults, IsTelegram, IsPair, pair_faults, ReadAs, Exact, OneRun};
+ghost use Rattle.words.specs.Words.{head_word, marked};
+ghost use Rattle.words.specs.declared.refusal.Refusal.TheVariants.{BadWord};
+ghost use Rattle.telegrams.specs.Telegrams.{head_judge, tag_judges, owner_judge, IsHead, head_of, kind_number, number_of, Numbered, pair_of, pair_run, telegram_run, telegram_faults, IsTelegram, IsPair, pair_faults, ReadAs, Exact, OneRun};
 
 use std::fmt;
 use words::refusal::Refusal;
 use words::tag::{MAX_COUNT, MAX_STATION, Tag};
 use words::value::Value;
-use words::word::{Head, bits_at, join, mark, split};
+use words::word::{COUNT, Head, OWNER, bits_at, join, mark, split};
 
 // The greatest number of a cabinet.
 pub const MAX_CABINET: u8 = 15;
@@ -19,7 +20,7 @@ pub const MAX_CABINET: u8 = 15;
 pub const MAX_JOB: u16 = 4095;
 
 // A value with its tag.
-#[derive(Clone, Copy)]
+#[derive(Clone, Copy, PartialEq, Eq, Debug)]
 pub struct Pair<V> {
     pub tag: Tag,
     pub value: V,
@@ -27,7 +28,7 @@ pub struct Pair<V> {
 
 // A query asks a cabinet for its pair, which told answers. A set hands a cabinet a pair, which took
 // acknowledges.
-#[derive(Clone, Copy)]
+#[derive(Clone, Copy, PartialEq, Eq, Debug)]
 pub enum TelegramKind<V> {
     Query,
     Told(Pair<V>),
@@ -36,12 +37,56 @@ pub enum TelegramKind<V> {
 }
 
 // What goes between a cabinet and a station about one of the station's jobs.
-#[derive(Clone, Copy)]
+#[derive(Clone, Copy, PartialEq, Eq, Debug)]
 pub struct Telegram<V> {
     pub cabinet: u8,
     pub station: u8,
     pub job: u16,
     pub kind: TelegramKind<V>,
+}
+
+// The kinds of a telegram, by their numbers in the head.
+#[derive(Clone, Copy, PartialEq, Eq, Debug)]
+enum HeadKind {
+    Query = 1,
+    Told,
+    Set,
+    Took,
+}
+
+impl TryFrom<u8> for HeadKind {
+    type Error = Refusal;
+
+    ghost try_from_gives = { Numbered };
+
+    fn try_from(number: u8) -> Result<Self, Refusal> {
+        match number {
+            1 => Ok(HeadKind::Query),
+            2 => Ok(HeadKind::Told),
+            3 => Ok(HeadKind::Set),
+            4 => Ok(HeadKind::Took),
+            _ => Err(Refusal::BadWord { place: 0 }),
+        }
+    }
+}
+
+impl From<HeadKind> for u8 {
+    ghost from_gives = { λ kind number. number ≡ number_of kind };
+
+    fn from(kind: HeadKind) -> u8 {
+        kind as u8
+    }
+}
+
+impl fmt::Display for HeadKind {
+    fn fmt<W: fmt::Write>(&self, f: &mut fmt::Formatter<W>) -> fmt::Result {
+        f.write_str(match self {
+            HeadKind::Query => "query",
+            HeadKind::Told => "told",
+            HeadKind::Set => "set",
+            HeadKind::Took => "took",
+        })
+    }
 }
 
 impl<V: Value> Pair<V> {
@@ -55,9 +100,20 @@ impl<V: Value> Pair<V> {
         if self.tag.owner > MAX_STATION {
             return Err(Refusal::BadWord { place: 2 });
         }
-        match self.value.check() {
-            Ok(()) => Ok(()),
-            Err(e) => Err(e.shifted(3)),
+        self.value.check().map_err(|e| e.shifted(3))
+    }
+}
+
+impl<V> TelegramKind<V> {
+    // The kind of the head.
+    fn head_kind(&self) -> HeadKind
+        ensures { number_of result ≡ kind_number self.now }
+    {
+        match self {
+            TelegramKind::Query => HeadKind::Query,
+            TelegramKind::Told(_) => HeadKind::Told,
+            TelegramKind::Set(_) => HeadKind::Set,
+            TelegramKind::Took => HeadKind::Took,
         }
     }
 }
@@ -68,10 +124,8 @@ impl<V: Value> Telegram<V> {
         ensures { result ≡ pair_of self.now.kind }
     {
         match self.kind {
-            TelegramKind::Query => None,
-            TelegramKind::Told(pair) => Some(pair),
-            TelegramKind::Set(pair) => Some(pair),
-            TelegramKind::Took => None,
+            TelegramKind::Told(pair) | TelegramKind::Set(pair) => Some(pair),
+            TelegramKind::Query | TelegramKind::Took => None,
         }
     }
 
@@ -80,8 +134,7 @@ impl<V: Value> Telegram<V> {
         ensures { MatchResult result (λ _. IsTelegram V.valid self.now) (Faulted (telegram_faults V.faults self.now)) }
     {
         if self.cabinet > MAX_CABINET
-            || self.station < 1
-            || self.station > MAX_STATION
+            || !(1..=MAX_STATION).contains(&self.station)
             || self.job > MAX_JOB
         {
             return Err(Refusal::BadWord { place: 0 });
@@ -96,47 +149,28 @@ impl<V: Value> Telegram<V> {
     fn read_words(words: &[u32]) -> Result<(Telegram<V>, usize), Refusal>
         ensures { ReadAs V.valid V.run V.judges words.now result }
     {
-        let Some(head) = read_head(words) else {
-            return Err(Refusal::BadWord { place: 0 });
+        let (head_kind, head) = read_head(words)?;
+        let (kind, width) = match head_kind {
+            HeadKind::Query => (TelegramKind::Query, 1),
+            HeadKind::Told => (TelegramKind::Told(read_pair(words)?), 3 + V::width()),
+            HeadKind::Set => (TelegramKind::Set(read_pair(words)?), 3 + V::width()),
+            HeadKind::Took => (TelegramKind::Took, 1),
         };
         let Head {
-            kind,
             cabinet,
             station,
             job,
+            ..
         } = head;
-        match kind {
-            1 => Ok((
-                Telegram {
-                    cabinet,
-                    station,
-                    job,
-                    kind: TelegramKind::Query,
-                },
-                1,
-            )),
-            2 | 3 => {
-                let kind = carrying(kind, read_pair(words)?);
-                Ok((
-                    Telegram {
-                        cabinet,
-                        station,
-                        job,
-                        kind,
-                    },
-                    3 + V::width(),
-                ))
-            }
-            _ => Ok((
-                Telegram {
-                    cabinet,
-                    station,
-                    job,
-                    kind: TelegramKind::Took,
-                },
-                1,
-            )),
-        }
+        Ok((
+            Telegram {
+                cabinet,
+                station,
+                job,
+                kind,
+            },
+            width,
+        ))
     }
 
     // Words are read as a telegram exactly when they open with its run, the only one that it has: no
@@ -166,14 +200,8 @@ impl<V: Value> Telegram<V> {
     fn head(&self) -> Head
         ensures { result ≡ head_of self.now }
     {
-        let kind = match self.kind {
-            TelegramKind::Query => 1,
-            TelegramKind::Told(_) => 2,
-            TelegramKind::Set(_) => 3,
-            TelegramKind::Took => 4,
-        };
         Head {
-            kind,
+            kind: u8::from(self.kind.head_kind()),
             cabinet: self.cabinet,
             station: self.station,
             job: self.job,
@@ -185,14 +213,12 @@ impl<V: Value> Telegram<V> {
 fn write_alone(head: u32, out: &mut [u32]) -> Result<usize, Refusal>
     ensures { Written [] (head ∷ []) out.old out.new result }
 {
-    if out.is_empty() {
-        return Err(Refusal::ShortStrip);
-    }
-    out[0] = head;
+    *out.first_mut().ok_or(Refusal::ShortStrip)? = head;
     Ok(1)
 }
 
-// Puts down a head with its tag and value.
+// Puts down a head with its tag and value. Indices name the three places: a slice pattern is no
+// plainer here, since the value writes into the middle part of `out` by its range.
 fn write_pair<V: Value>(head: u32, pair: &Pair<V>, out: &mut [u32]) -> Result<usize, Refusal>
     requires { IsPair V.valid (Some pair.now) }
     ensures { Written [] (head ∷ pair_run V.run (Some pair.now)) out.old out.new result }
@@ -203,89 +229,58 @@ fn write_pair<V: Value>(head: u32, pair: &Pair<V>, out: &mut [u32]) -> Result<us
     }
     pair.value.write(&mut out[3..end])?;
     out[0] = head;
-    out[1] = mark(5, pair.tag.count);
-    out[2] = mark(6, u32::from(pair.tag.owner));
+    out[1] = mark(COUNT, pair.tag.count);
+    out[2] = mark(OWNER, u32::from(pair.tag.owner));
     Ok(end)
 }
 
 // KIND CABINET STATION JOB, and for told and set COUNT OWNER VALUE.
 impl<V: Value + fmt::Display> fmt::Display for Telegram<V> {
     fn fmt<W: fmt::Write>(&self, f: &mut fmt::Formatter<W>) -> fmt::Result {
-        let kind = match self.kind {
-            TelegramKind::Query => "query",
-            TelegramKind::Told(_) => "told",
-            TelegramKind::Set(_) => "set",
-            TelegramKind::Took => "took",
-        };
-        let cabinet = self.cabinet;
-        let station = self.station;
-        let job = self.job;
+        let Telegram {
+            cabinet,
+            station,
+            job,
+            kind,
+        } = self;
+        let kind = kind.head_kind();
         write!(f, "{kind} {cabinet} {station} {job}")?;
-        match self.pair() {
-            Some(pair) => {
-                let Pair { tag, value } = pair;
-                let Tag { count, owner } = tag;
-                write!(f, " {count} {owner} {value}")
-            }
-            None => Ok(()),
+        if let Some(Pair { tag, value }) = self.pair() {
+            write!(f, " {tag} {value}")?;
         }
+        Ok(())
     }
 }
 
-// The fields of the first word, if it is there and the head of a telegram.
-fn read_head(words: &[u32]) -> Option<Head>
-    ensures { MatchOption result (verdict head_judge words.now 0 ≡ 10) (λ h. (0 < length words.now) × (head_word h ≡ slice_index words.now 0) × IsHead h) }
+// The kind and the fields of the first word, if it is there and the head of a telegram.
+fn read_head(words: &[u32]) -> Result<(HeadKind, Head), Refusal>
+    ensures { MatchResult result (λ (kind, h). (0 < length words.now) × (head_word h ≡ slice_index words.now 0) × IsHead h × (number_of kind ≡ h.kind)) (λ e. (e ≡ BadWord 0) × (verdict head_judge words.now 0 ≡ 10)) }
 {
-    if words.is_empty() {
-        return None;
+    let bad = Refusal::BadWord { place: 0 };
+    let head = split(*words.first().ok_or(bad)?);
+    let kind = HeadKind::try_from(head.kind)?;
+    if !(1..=MAX_STATION).contains(&head.station) || head.job > MAX_JOB {
+        return Err(bad);
     }
-    let head = split(words[0]);
-    if head.kind < 1
-        || head.kind > 4
-        || head.station < 1
-        || head.station > MAX_STATION
-        || head.job > MAX_JOB
-    {
-        return None;
-    }
-    Some(head)
+    Ok((kind, head))
 }
 
-// A told, kind 2, or a set, kind 3, with its pair.
-fn carrying<V>(kind: u8, pair: Pair<V>) -> TelegramKind<V>
-    requires { (2 ≤ kind) × (kind ≤ 3) }
-    ensures number { kind_number result ≡ kind }
-    ensures pair { pair_of result ≡ Some pair }
+// The owner of a tag, behind the head and the count.
+fn owner_at(words: &[u32]) -> Option<u8>
+    ensures { MatchOption result (verdict owner_judge words.now 2 ≡ 10) (λ owner. (2 < length words.now) × (owner ≤ 32) × (marked 6 owner ≡ slice_index words.now 2)) }
 {
-    if kind == 2 {
-        TelegramKind::Told(pair)
-    } else {
-        TelegramKind::Set(pair)
-    }
+    let owner = u8::try_from(bits_at(OWNER, words, 2)?).ok()?;
+    (owner <= MAX_STATION).then_some(owner)
 }
 
 // The tag and value behind the head; places count from the telegram's first word.
 fn read_pair<V: Value>(words: &[u32]) -> Result<Pair<V>, Refusal>
     ensures { MatchResult result (λ p. IsPair V.valid (Some p) × (take (2 + length V.judges) (drop 1 words.now) ≡ pair_run V.run (Some p))) (Faulted (0 ∷ judged (tag_judges ++ V.judges) (drop 1 words.now))) }
 {
-    let Some(count) = bits_at(5, words, 1) else {
-        return Err(Refusal::BadWord { place: 1 });
-    };
-    let Some(owner) = bits_at(6, words, 2) else {
-        return Err(Refusal::BadWord { place: 2 });
-    };
-    if owner > u32::from(MAX_STATION) {
-        return Err(Refusal::BadWord { place: 2 });
-    }
+    let count = bits_at(COUNT, words, 1).ok_or(Refusal::BadWord { place: 1 })?;
+    let owner = owner_at(words).ok_or(Refusal::BadWord { place: 2 })?;
     let end = words.len().min(3 + V::width());
-    match V::read(&words[3..end]) {
-        Ok(value) => Ok(Pair {
-            tag: Tag {
-                count,
-                owner: owner as u8,
-            },
-            value,
-        }),
-        Err(e) => Err(e.shifted(3)),
-    }
+    let value = V::read(&words[3..end]).map_err(|e| e.shifted(3))?;
+    let tag = Tag { count, owner };
+    Ok(Pair { tag, value })
 }

@@ -15,31 +15,24 @@ mod tests {
 
     // The first of the sets, which come in the order of their numbers, that lies inside the given one.
     fn walk(family: &[u16], given: u16) -> Option<u16> {
-        for s in family {
-            if *s & given == *s {
-                return Some(*s);
-            }
-        }
-        None
+        family.iter().copied().find(|s| *s & given == *s)
+    }
+
+    // Whether all members of the set are among the first n cabinets.
+    fn fits(set: u16, n: u8) -> bool {
+        u32::from(set) >> n.min(16) == 0
     }
 
     // All sets of n cabinets with so many members, in the order of their numbers.
     fn sets_of(heap: Global, n: u8, members: u32) -> Result<Vec<u16>, Fail> {
-        let mut sets = Vec::new(heap);
-        for s in 0..=u16::MAX {
-            if u32::from(s) >> n.min(16) == 0 && s.count_ones() == members {
-                sets.push(s)?;
-            }
-        }
-        Ok(sets)
+        let sets = (0..=u16::MAX).filter(|s| fits(*s, n) && s.count_ones() == members);
+        Ok(sets.collect(heap)?)
     }
 
     // Every pick of the system, from each set of so many cabinets, is that of the walk.
     fn compare<S: QuorumSystem>(rt: &impl Abort, system: &S, n: u8, family: &[u16]) {
-        for given in 0..=u16::MAX {
-            if u32::from(given) >> n.min(16) == 0 {
-                assert_eq!(rt; system.pick(given), walk(family, given));
-            }
+        for given in (0..=u16::MAX).filter(|s| fits(*s, n)) {
+            assert_eq!(rt; system.pick(given), walk(family, given));
         }
     }
 
@@ -52,19 +45,19 @@ mod tests {
         Ok(())
     }
 
+    // The set of the cabinet in this row and column alone.
+    fn single(row: u8, column: u8, columns: u8) -> u16 {
+        1u16 << (row.wrapping_mul(columns).wrapping_add(column) % 16)
+    }
+
     // The crossings of a grid, in the order of their numbers.
     fn crossings(heap: Global, rows: u8, columns: u8) -> Result<Vec<u16>, Fail> {
         let mut sets: Vec<u16> = Vec::new(heap);
         for row in 0..rows {
             for column in 0..columns {
-                let mut s = 0u16;
-                for i in 0..rows {
-                    s |= 1u16 << (i.wrapping_mul(columns).wrapping_add(column) % 16);
-                }
-                for j in 0..columns {
-                    s |= 1u16 << (row.wrapping_mul(columns).wrapping_add(j) % 16);
-                }
-                sets.push(s)?;
+                let down = (0..rows).map(|i| single(i, column, columns));
+                let across = (0..columns).map(|j| single(row, j, columns));
+                sets.push(down.chain(across).fold(0, |s, k| s | k))?;
             }
         }
         sets.sort()?;
@@ -76,12 +69,8 @@ mod tests {
         for rows in 1..=4u8 {
             for columns in 1..=4u8 {
                 let family = crossings(rt.alloc(), rows, columns)?;
-                compare(
-                    &rt,
-                    &Grid::new(rows.wrapping_mul(columns), rows, columns)?,
-                    rows.wrapping_mul(columns),
-                    family.as_slice(),
-                );
+                let n = rows.wrapping_mul(columns);
+                compare(&rt, &Grid::new(n, rows, columns)?, n, family.as_slice());
             }
         }
         Ok(())
@@ -125,64 +114,60 @@ mod tests {
 
     // The members of the set that told the count.
     fn holders(set: u16, told: &[u32; 4], count: u32) -> u16 {
-        let mut found = 0u16;
-        for (k, t) in told.iter().enumerate() {
-            if *t == count && k < 4 {
-                found |= 1u16 << k;
-            }
-        }
-        found & set
+        (0..4u8)
+            .filter(|k| told[usize::from(*k)] == count)
+            .fold(0, |found, k| found | (1u16 << k))
+            & set
     }
 
     fn greatest(set: u16, told: &[u32; 4]) -> u32 {
-        let mut most = 0;
-        for count in 1..=3u32 {
-            if holders(set, told, count) != 0 {
-                most = count;
-            }
-        }
-        most
+        (1..=3u32)
+            .filter(|count| holders(set, told, *count) != 0)
+            .max()
+            .unwrap_or(0)
     }
 
-    // Striking as it is told, asking each quorum of the family: one trip or not, the count, the strikes.
-    fn struck(family: &[u16], q: u16, told: &[u32; 4]) -> (bool, u32, u8) {
+    // What a read does, with the count of its tag and the number of strikes.
+    #[derive(Clone, Copy, PartialEq, Eq, Debug)]
+    enum Outcome {
+        OneTrip { count: u32, strikes: u8 },
+        SecondTrip { count: u32, strikes: u8 },
+    }
+
+    // Striking as it is told, asking each quorum of the family. It ends within four strikes.
+    fn struck(family: &[u16], q: u16, told: &[u32; 4]) -> Option<Outcome> {
         let mut remaining = q;
         for strikes in 0..4u8 {
-            let latest = greatest(remaining, told);
-            let held = holders(remaining, told, latest);
+            let count = greatest(remaining, told);
+            let held = holders(remaining, told, count);
             if held == remaining {
-                return (true, latest, strikes);
+                return Some(Outcome::OneTrip { count, strikes });
             }
-            for c in family {
-                if *c != q && *c & remaining & held == *c & remaining {
-                    return (false, greatest(q, told), strikes);
-                }
+            let shared = |c: &u16| *c != q && *c & remaining & held == *c & remaining;
+            if family.iter().any(shared) {
+                let count = greatest(q, told);
+                return Some(Outcome::SecondTrip { count, strikes });
             }
             remaining ^= held;
         }
-        (true, 0, u8::MAX)
+        None
     }
 
-    fn judged<S: QuorumSystem>(system: &S, q: u16, told: &[u32; 4]) -> (bool, u32, u8) {
-        let [a, b, c, d] = *told;
-        let tags = [
-            Tag { count: a, owner: 7 },
-            Tag { count: b, owner: 7 },
-            Tag { count: c, owner: 7 },
-            Tag { count: d, owner: 7 },
-        ];
-        match judge(system, q, &tags) {
-            Some((Verdict::OneTrip(tag), strikes)) => (true, tag.count, strikes),
-            Some((Verdict::SecondTrip(tag), strikes)) => (false, tag.count, strikes),
-            None => (false, 0, u8::MAX),
-        }
+    fn judged<S: QuorumSystem>(system: &S, q: u16, told: &[u32; 4]) -> Option<Outcome> {
+        let tags = told.map(|count| Tag { count, owner: 7 });
+        judge(system, q, &tags).map(|(verdict, strikes)| match verdict {
+            Verdict::OneTrip(Tag { count, .. }) => Outcome::OneTrip { count, strikes },
+            Verdict::SecondTrip(Tag { count, .. }) => Outcome::SecondTrip { count, strikes },
+        })
     }
 
     fn compare_reads<S: QuorumSystem>(rt: &impl Abort, system: &S, family: &[u16]) {
         for q in family {
             for number in 0..81u32 {
                 let told = counts(number);
-                assert_eq!(rt; judged(system, *q, &told), struck(family, *q, &told));
+                let wanted = struck(family, *q, &told);
+                assert!(rt; wanted.is_some());
+                assert_eq!(rt; judged(system, *q, &told), wanted);
             }
         }
     }

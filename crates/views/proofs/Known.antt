@@ -3,7 +3,7 @@ use Rattle.std.proofs.Common.{◌≡◌, ℕ, zero, suc, ◌^◌, ◌<◌, ◌�
 use lib.Count.{ones, ones_in}
 use Rattle.words.specs.declared.tag.Tag.{Tag}
 use Rattle.words.specs.Tags.{Before, Upto}
-use Rattle.words.proofs.TagOrders.{tag_order}
+use Rattle.words.proofs.TagOrders.{before_upto, tag_order, upto_refl}
 use Rattle.quorums.specs.Families.{MajorityOf, TableOf, Tight}
 use Rattle.quorums.specs.Sets.{Inside, Member, Picked}
 use Rattle.quorums.specs.Counting.{inside_ones}
@@ -12,7 +12,6 @@ use Rattle.quorums.specs.Members.{member_below, share_some}
 use Rattle.views.specs.Settings.{KnownSettings}
 use Rattle.views.specs.Views.{Held, Judged, Latest, told}
 use Rattle.views.specs.declared.Verdict.TheVariants.{OneTrip, SecondTrip}
-use Rattle.views.proofs.Tops.{upto_refl}
 
 picks : Picked (MajorityOf 5) 27 (Some 11)
 unfolding ones ones_in
@@ -24,9 +23,6 @@ picks_none = too_few 5 3 (lit< tt)
 
 loose : (n : ℕ) → Tight n (3 ∷ 12 ∷ []) → ⊥
 loose n tight = let none : 0 < 0 = share_some 3 12 (tight.share 0 1 (lit< tt) (lit< tt)) in omega arith
-
-before_upto : (a b : Tag) → Before a b → Upto a b
-before_upto a b h = (h.0, λ e. omega (arith, h.1 e))
 
 never : (a b : Tag) {A : Type 0} → Before a b → Upto b a → A
 never a b p q = absurd (tag_order.not_both a b p q)

@@ -4,13 +4,12 @@ use lib.Bits.{bit_and}
 use Rattle.std.proofs.lemmas.Bool.{cases_lt}
 use Rattle.words.specs.declared.tag.Tag.{Tag}
 use Rattle.words.specs.Tags.{Upto}
-use Rattle.words.proofs.TagOrders.{tag_order}
+use Rattle.words.proofs.TagOrders.{tag_order, upto_refl}
 use Rattle.quorums.specs.Sets.{Member, Share}
 use Rattle.quorums.specs.Members.{bit_of_and, member_below, member_or_not}
 use Rattle.views.specs.Views.{Judged, Lawful, told}
 use Rattle.views.specs.declared.Verdict.{Verdict}
 use Rattle.views.specs.declared.Verdict.TheVariants.{OneTrip, SecondTrip}
-use Rattle.views.proofs.Tops.{upto_refl}
 
 module _ (tags : List Tag) where
   -- a member of s with the earliest tag of those below n

@@ -4,16 +4,12 @@ use lib.Count.{ones, ones-le}
 use Rattle.std.proofs.lemmas.Bool.{cases_eq}
 use Rattle.words.specs.declared.tag.Tag.{Tag}
 use Rattle.words.specs.Tags.{Before, Upto}
-use Rattle.words.proofs.TagOrders.{tag_order}
+use Rattle.words.proofs.TagOrders.{before_upto, tag_order, upto_refl}
 use Rattle.quorums.specs.Sets.{Inside, Member, Those}
 use Rattle.quorums.specs.Counting.{inside_ones, inside_same}
 use Rattle.quorums.specs.Members.{member_below}
 use Rattle.views.specs.Views.{Held, Judged, Latest, NoneLater, OtherAt, Struck, told}
 use Rattle.views.specs.declared.Verdict.TheVariants.{OneTrip, SecondTrip}
-use Rattle.views.proofs.Tops.{upto_refl}
-
-before_upto : (a b : Tag) → Before a b → Upto a b
-before_upto a b h = (h.0, λ e. omega (arith, h.1 e))
 
 module _ (tags : List Tag) (q : ℕ) (F : ℕ → Type 0) where
   -- the members of q that told nothing later than `at` remain; of those struck nothing is left open

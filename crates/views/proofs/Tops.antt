@@ -1,25 +1,22 @@
 -- The latest tag of the members so far.
-use Rattle.std.proofs.Common.{◌≡◌, ℕ, ◌+◌, ◌<◌, ◌⊎◌, List, Some, None, Option, sym, ◌∙◌, subst, ⊎_elim, arith, MatchOption}
+use Rattle.std.specs.Option.{option_cmp}
+use Rattle.std.specs.Ordering.{is_lt, ord_max}
+use Rattle.words.specs.contracts.tag.TagOrd.TheImpl as ord
+use Rattle.std.proofs.Common.{◌≡◌, ℕ, ◌+◌, ◌<◌, ◌⊎◌, List, Some, None, Option, sym, ◌∙◌, subst, ⊎_elim, arith, MatchOption, Bool, true, false, cond, inl, inr, refl}
 use Rattle.std.proofs.lemmas.Bool.{cases_lt}
 use Rattle.words.specs.declared.tag.Tag.{Tag}
 use Rattle.words.specs.Tags.{Upto}
-use Rattle.words.proofs.TagOrders.{tag_order}
+use Rattle.words.proofs.TagOrders.{before_upto, less_before, not_less_upto, tag_order, upto_refl}
 use Rattle.quorums.specs.Sets.{Member}
 use Rattle.views.specs.Views.{told, Held, Latest}
-
-pub upto_refl : (t : Tag) → Upto t t
-upto_refl t = (omega arith, λ e. omega arith)
 
 module _ (tags : List Tag) (set : ℕ) where
   abbrev pub Top : ℕ → Option Tag → Type 0
   Top n None = (k : ℕ) → k < n → Member k set → ⊥
   Top n (Some t) = Held tags set t × ((k : ℕ) → k < n → Member k set → Upto (told tags k) t)
 
-  pub top_none : Top 0 None
-  top_none k h m = omega arith
-
   -- a member more, of the tag t; r is the later of it and the best so far
-  pub top_more : (n : ℕ) (best : Option Tag) (t r : Tag) → Top n best → Member n set → told tags n ≡ t → Upto t r → MatchOption best (r ≡ t) (λ b. Upto b r × ((r ≡ b) ⊎ (r ≡ t))) → Top (n + 1) (Some r)
+  top_more : (n : ℕ) (best : Option Tag) (t r : Tag) → Top n best → Member n set → told tags n ≡ t → Upto t r → MatchOption best (r ≡ t) (λ b. Upto b r × ((r ≡ b) ⊎ (r ≡ t))) → Top (n + 1) (Some r)
   top_more n None t r top m e up is = (
     (n, m, e ∙ sym is),
     λ k h mk. ⊎_elim (λ l. absurd (top k l mk)) (λ l. let at : n ≡ k = omega arith in subst (λ (j : ℕ). Upto (told tags j) r) at (subst (λ (u : Tag). Upto u r) (sym e) up)) (cases_lt k n),
@@ -30,6 +27,14 @@ module _ (tags : List Tag) (set : ℕ) where
         ⊎_elim (λ l. tag_order.through (told tags k) b r (top.1 k l mk) is.0)
         (λ l. let at : n ≡ k = omega arith in subst (λ (j : ℕ). Upto (told tags j) r) at (subst (λ (u : Tag). Upto u r) (sym e) up)) (cases_lt k n),
   )
+
+  top_less : (n : ℕ) (b t : Tag) (less : Bool) → is_lt (ord.cmp-value.it t b) ≡ less → Top n (Some b) → Member n set → told tags n ≡ t → Top (n + 1) (cond less (Some b) (Some t))
+  top_less n b t true e top m is = top_more n (Some b) t b top m is (before_upto t b (less_before t b e)) (upto_refl b, inl refl)
+  top_less n b t false e top m is = top_more n (Some b) t t top m is (upto_refl t) (not_less_upto t b e, inr refl)
+
+  pub top_max : (n : ℕ) (best : Option Tag) (t : Tag) → Top n best → Member n set → told tags n ≡ t → Top (n + 1) (ord_max (option_cmp ord.cmp-value.it) best (Some t))
+  top_max n None t top m is = top_more n None t t top m is (upto_refl t) refl
+  top_max n (Some b) t top m is = top_less n b t (is_lt (ord.cmp-value.it t b)) refl top m is
 
   -- no member more
   pub top_same : (n : ℕ) (best : Option Tag) → Top n best → (Member n set → ⊥) → Top (n + 1) best

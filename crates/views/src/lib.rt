@@ -12,72 +12,74 @@ use quorums::sets::{all, has, is_inside, outside, with};
 use words::tag::Tag;
 
 // What a read does next: it ends with the tag, or sets the pair of the tag in a second trip.
-#[derive(Clone, Copy)]
+#[derive(Clone, Copy, PartialEq, Eq, Debug)]
 pub enum Verdict {
     OneTrip(Tag),
     SecondTrip(Tag),
 }
 
-// The later of the latest tag so far, if there is one, and another.
-fn later(best: Option<Tag>, tag: Tag) -> Tag
-    ensures upper { Upto tag result × MatchOption best (result ≡ tag) (λ b. Upto b result × ((result ≡ b) ⊎ (result ≡ tag))) }
-{
-    match best {
-        Some(b) => { if tag.is_later(&b) { tag } else { b } }
-        None => tag,
-    }
+// The tags that the members of a set told, by cabinet.
+#[derive(Clone, Copy)]
+struct Told<'t> {
+    members: u16,
+    tags: &'t [Tag],
+    ghost told: { (k : ℕ) → Member k members → k < length tags.now },
 }
 
-// The latest tag that a member of the set told.
-fn latest(set: u16, tags: &[Tag]) -> Option<Tag>
-    requires { (k : ℕ) → Member k set → k < length tags.now }
-    ensures { MatchOption result ((k : ℕ) → Member k set → ⊥) (λ t. Held tags.now set t × Latest tags.now set t) }
-{
-    let mut best = None;
-    for k in 0..16u8 {
-        if has(set, k) {
-            best = Some(later(best, tags[usize::from(k)]));
+impl<'t> Told<'t> {
+    // The latest tag that a member told.
+    fn latest(&self) -> Option<Tag>
+        ensures { MatchOption result ((k : ℕ) → Member k self.now.members → ⊥) (λ t. Held self.now.tags.now self.now.members t × Latest self.now.tags.now self.now.members t) }
+    {
+        let members = self.members;
+        let mut best = None;
+        for k in 0..16u8 {
+            if has(members, k) {
+                best = best.max(Some(self.tags[usize::from(k)]));
+            }
+        }
+        best
+    }
+
+    // The members that told an earlier tag, alone.
+    fn before(&self, tag: &Tag) -> Told<'t>
+        ensures same { result.tags.now ≡ self.now.tags.now }
+        ensures those { Those (λ k. Member k self.now.members × Before (told self.now.tags.now k) tag.now) 16 result.members }
+    {
+        let mut rest = 0u16;
+        for k in 0..16u8 {
+            if has(self.members, k) && tag.is_later(&self.tags[usize::from(k)]) {
+                rest = with(rest, k);
+            }
+        }
+        Told {
+            members: rest,
+            tags: self.tags,
         }
     }
-    best
 }
 
-// The members of the set that told an earlier tag.
-fn earlier(set: u16, tags: &[Tag], tag: &Tag) -> u16
-    requires { (k : ℕ) → Member k set → k < length tags.now }
-    ensures { Those (λ k. Member k set × Before (told tags.now k) tag.now) 16 result }
+// Strikes the latest tag of the remaining members off until the verdict is clear. The loop gives the verdict and the strikes by
+// its `break`, as the rules of the project name it.
+fn strike<S: QuorumSystem>(system: &S, quorum: &Told<'_>, top: Tag) -> (Verdict, u8)
+    requires { Held quorum.now.tags.now quorum.now.members top × Latest quorum.now.tags.now quorum.now.members top }
+    ensures { Judged quorum.now.tags.now quorum.now.members (S.quorum system.now) result.0 result.1 }
 {
-    let mut rest = 0u16;
-    for k in 0..16u8 {
-        if has(set, k) && tag.is_later(&tags[usize::from(k)]) {
-            rest = with(rest, k);
-        }
-    }
-    rest
-}
-
-// Strikes the latest tag of the remaining members off until the verdict is clear.
-fn strike<S: QuorumSystem>(system: &S, q: u16, tags: &[Tag], top: Tag) -> (Verdict, u8)
-    requires told { (k : ℕ) → Member k q → k < length tags.now }
-    requires top { Held tags.now q top × Latest tags.now q top }
-    ensures { Judged tags.now q (S.quorum system.now) result.0 result.1 }
-{
-    let mut remaining = q;
+    let mut remaining = *quorum;
     let mut at = top;
     let mut strikes = 0u8;
-    let (verdict, strikes) = loop {
-        let rest = earlier(remaining, tags, &at);
-        let Some(next) = latest(rest, tags) else {
+    loop {
+        let rest = remaining.before(&at);
+        let Some(next) = rest.latest() else {
             break (Verdict::OneTrip(at), strikes);
         };
-        if let Some(_other) = system.pick(outside(rest, system.cabinets())) {
+        if let Some(_other) = system.pick(outside(rest.members, system.cabinets())) {
             break (Verdict::SecondTrip(top), strikes);
         }
         remaining = rest;
         at = next;
         strikes += 1;
-    };
-    (verdict, strikes)
+    }
 }
 
 // The verdict on a read whose quorum q told these tags, by cabinet, and the number of strikes. None
@@ -90,8 +92,7 @@ pub fn judge<S: QuorumSystem>(system: &S, q: u16, tags: &[Tag]) -> Option<(Verdi
     if !is_inside(q, all(told)) {
         return None;
     }
-    let Some(top) = latest(q, tags) else {
-        return None;
-    };
-    Some(strike(system, q, tags, top))
+    let quorum = Told { members: q, tags };
+    let top = quorum.latest()?;
+    Some(strike(system, &quorum, top))
 }

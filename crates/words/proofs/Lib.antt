@@ -1,3 +1,2 @@
 pub mod ByteRows
-pub mod Fields
 pub mod TagOrders

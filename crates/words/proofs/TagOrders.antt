@@ -1,8 +1,11 @@
--- The order of tags is one row.
-use Rattle.std.proofs.Common.{◌≡◌, ◌⊎◌, inl, inr, ⊎_elim, arith}
+-- The order of tags is one row, and comparing tags goes by it.
+use Rattle.std.proofs.Common.{◌≡◌, ◌⊎◌, true, false, inl, inr, ⊎_elim, arith, rules}
 use Rattle.std.proofs.lemmas.Bool.{cases_lt, cases_order}
+use Rattle.std.proofs.lemmas.Grind.{common_steps}
+use Rattle.std.specs.Ordering.{is_lt}
 use Rattle.words.specs.Tags.{Before, TagOrder, Upto}
 use Rattle.words.specs.declared.tag.Tag.{Tag}
+use Rattle.words.specs.contracts.tag.TagOrd.TheImpl as ord
 
 either : (a b : Tag) → Before a b ⊎ Upto b a
 either a b =
@@ -23,3 +26,16 @@ tag_order = record {
       let owner : a.owner ≡ b.owner = omega arith in
       λ i. record { count = count i; owner = owner i };
 }
+
+pub upto_refl : (t : Tag) → Upto t t
+upto_refl t = (omega arith, λ e. omega arith)
+
+pub before_upto : (a b : Tag) → Before a b → Upto a b
+before_upto a b h = (h.0, λ e. omega (arith, h.1 e))
+
+-- what comparing tags says
+pub less_before : (a b : Tag) → is_lt (ord.cmp-value.it a b) ≡ true → Before a b
+less_before a b e = search rules
+
+pub not_less_upto : (a b : Tag) → is_lt (ord.cmp-value.it a b) ≡ false → Upto b a
+not_less_upto a b e = grind (arith, common_steps)

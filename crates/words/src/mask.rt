@@ -10,7 +10,7 @@ ghost use Rattle.words.specs.declared.mask.Mask.{Mask};
 
 use crate::refusal::Refusal;
 use crate::value::Value;
-use crate::word::{bits_at, mark};
+use crate::word::{VALUE, bits_at, mark};
 use std::fmt;
 
 // How many parts a mask has.
@@ -20,7 +20,7 @@ pub const MASK_PARTS: usize = 4;
 pub const MAX_PART: u32 = 0x0fff_ffff;
 
 // Which of 112 valves are open: four parts of 28 bits, valve 0 the lowest bit of the first part.
-#[derive(Clone, Copy)]
+#[derive(Clone, Copy, PartialEq, Eq, Debug)]
 pub struct Mask {
     pub parts: [u32; MASK_PARTS],
 }
@@ -41,23 +41,24 @@ fn check_parts(parts: &[u32]) -> Result<(), Refusal>
 fn read_parts(words: &[u32], parts: &mut [u32]) -> Result<(), Refusal>
     ensures { MatchResult result (λ _. Small parts.new × (take (length parts.new) words.now ≡ parts_run parts.new)) (Faulted (judged (replicate (length parts.old) (kind_judge 7)) words.now)) }
 {
-    for place in 0..parts.len() {
-        let Some(bits) = bits_at(7, words, place) else {
+    for (place, part) in parts.iter_mut().enumerate() {
+        let Some(bits) = bits_at(VALUE, words, place) else {
             return Err(Refusal::BadWord { place });
         };
-        parts[place] = bits;
+        *part = bits;
     }
     Ok(())
 }
 
-// Puts the parts down at the start of `out`.
+// Puts the parts down at the start of `out`, by place: zipped with `out.iter_mut()` it was tried, and what was written was not
+// known afterwards.
 fn write_parts(parts: &[u32], out: &mut [u32])
     requires small { Small parts.now }
     requires room { length parts.now ≤ length out.old }
     ensures { out.new ≡ parts_run parts.now ++ drop (length parts.now) out.old }
 {
     for (place, part) in parts.iter().enumerate() {
-        out[place] = mark(7, *part);
+        out[place] = mark(VALUE, *part);
     }
 }
 

@@ -17,12 +17,13 @@ pub enum Refusal {
     StrangeTicket,
     BadWord { place: usize },
     BadValue { place: usize },
+    // the inner number is 0, 10 or 11; a number, since it is printed and carried as the table has it
     BadTape { inner: u8, place: usize },
     ShortStrip,
 }
 
 impl Refusal {
-    // The refusal's number in the table.
+    // The refusal's number in the table, by which output and contracts speak of it.
     pub fn number(&self) -> u8
         ensures { result ≡ number self.now }
     {
@@ -63,8 +64,10 @@ impl fmt::Display for Refusal {
     fn fmt<W: fmt::Write>(&self, f: &mut fmt::Formatter<W>) -> fmt::Result {
         let number = self.number();
         match self {
-            Refusal::BadWord { place } => write!(f, "{number} {place}"),
-            Refusal::BadValue { place } => write!(f, "{number} {place}"),
+            Refusal::BadWord { place } | Refusal::BadValue { place } => write!(
+                f,
+                "{number} {place}"
+            ),
             Refusal::BadTape { inner, place } => write!(f, "{number} {inner} {place}"),
             _ => write!(f, "{number}"),
         }

@@ -5,7 +5,7 @@ ghost use Rattle.std.proofs.Common.{rules};
 
 use crate::refusal::Refusal;
 use crate::value::Value;
-use crate::word::{bits_at, mark};
+use crate::word::{VALUE, bits_at, mark};
 use std::fmt;
 
 // How many words a speed has.
@@ -15,7 +15,7 @@ pub const SPEED_WORDS: usize = 1;
 pub const MAX_SPEED: u16 = 6000;
 
 // A belt speed, a whole number from 0 to `MAX_SPEED`.
-#[derive(Clone, Copy)]
+#[derive(Clone, Copy, PartialEq, Eq, PartialOrd, Ord, Debug)]
 pub struct Speed(pub u16);
 
 impl Value for Speed {
@@ -51,13 +51,11 @@ impl Value for Speed {
     }
 
     fn read(words: &[u32]) -> Result<Speed, Refusal> {
-        let Some(bits) = bits_at(7, words, 0) else {
-            return Err(Refusal::BadWord { place: 0 });
-        };
-        if bits > u32::from(MAX_SPEED) {
-            return Err(Refusal::BadValue { place: 0 });
-        }
-        Ok(Speed(bits as u16))
+        let bits = bits_at(VALUE, words, 0).ok_or(Refusal::BadWord { place: 0 })?;
+        let bits = u16::try_from(bits).map_err(|_| Refusal::BadValue { place: 0 })?;
+        let speed = Speed(bits);
+        speed.check()?;
+        Ok(speed)
     }
 
     fn write(&self, out: &mut [u32]) -> Result<usize, Refusal> {
@@ -65,14 +63,13 @@ impl Value for Speed {
         let [word, ..] = out else {
             return Err(Refusal::ShortStrip);
         };
-        *word = mark(7, u32::from(self.0));
+        *word = mark(VALUE, u32::from(self.0));
         Ok(SPEED_WORDS)
     }
 }
 
 impl fmt::Display for Speed {
     fn fmt<W: fmt::Write>(&self, f: &mut fmt::Formatter<W>) -> fmt::Result {
-        let speed = self.0;
-        write!(f, "{speed}")
+        write!(f, "{}", self.0)
     }
 }

@@ -3,10 +3,18 @@ ghost use Rattle.std.specs.Prelude.{◌≡◌, ◌%◌, ◌^◌, ◌<◌, length
 ghost use Rattle.words.specs.Judged.{verdict};
 ghost use Rattle.words.specs.Words.{kind_judge, marked, head_word};
 
+// The kinds of the words behind a head.
+pub const COUNT: u8 = 5;
+
+pub const OWNER: u8 = 6;
+
+pub const VALUE: u8 = 7;
+
 // The fields of a head word. On the bus `cabinet`, `station` and `job` name a telegram's parties;
 // commands and the opening of a tape use the same places for their own fields.
-#[derive(Clone, Copy)]
+#[derive(Clone, Copy, PartialEq, Eq, Debug)]
 pub struct Head {
+    // a number, not an enum: each word has a kind of four bits, with a name or not, and a split loses nothing
     pub kind: u8,
     pub cabinet: u8,
     pub station: u8,
@@ -36,7 +44,7 @@ pub fn join(head: Head) -> u32
     (upper << 16) | u32::from(head.job)
 }
 
-// A word of the kind, of which the lowest four bits count, with the lowest 28 bits of `bits`.
+// A word of the kind, of which the lowest four bits count, with the lowest 28 bits of `bits`. The kind is a number, as in a head.
 pub fn mark(kind: u8, bits: u32) -> u32
     ensures { result ≡ marked (kind % 16) (bits % 2 ^ 28) }
 {
@@ -47,13 +55,6 @@ pub fn mark(kind: u8, bits: u32) -> u32
 pub fn bits_at(kind: u8, words: &[u32], place: usize) -> Option<u32>
     ensures { MatchOption result (verdict (kind_judge kind) words.now place ≡ 10) (λ bits. (place < length words.now) × (bits < 2 ^ 28) × (marked kind bits ≡ slice_index words.now place)) }
 {
-    if place >= words.len() {
-        return None;
-    }
-    let word = words[place];
-    if word >> 28 == u32::from(kind) {
-        Some(word & 0x0fff_ffff)
-    } else {
-        None
-    }
+    let word = *words.get(place)?;
+    (word >> 28 == u32::from(kind)).then_some(word & 0x0fff_ffff)
 }

@@ -11,7 +11,7 @@ loop-station-preserved g c =
     let st = c.station-item.result in
     let more : owed (drop i stations) ≡ owed_in (get_or stations i st).hand + owed (drop (i + 1) stations) = at_drop_more owed stations i st c.loop-station-test.true in
     let one : owed_in st.hand ≡ owed_in (get_or stations i st).hand = ap (λ (x : Station g.row.V.Denot). owed_in x.hand) c.station-item.is in
-    (omega (arith, c.loop-station.invariant.0, c.owed_by-rows.ensures.0), omega (arith, c.loop-station.invariant.1, c.owed_by-rows.ensures.1))
+    (omega (arith, c.loop-station.invariant.0, c.owed_by-rows.ensures.owed), omega (arith, c.loop-station.invariant.1, c.owed_by-rows.ensures.few))
 
 pub returns : goal.returns
 returns g c =

@@ -27,18 +27,13 @@ returns-then-not-is_inside g c = record {
   known = known_settings;
 }
 
-pub returns-in_default : goal.returns-in_default
-returns-in_default g c = record { judges = λ some told. c.in_default.ensures some.0 some.1; known = known_settings }
-
-pub latest-requires : goal.latest-requires
-latest-requires g c =
-    told_all c.args.q _ c.all.result (omega arith) (line_is _ _ c.all.result c.min-told.ensures c.all.ensures) c.if-not-is_inside.ensures
-
-pub strike-requires : goal.strike-requires
-strike-requires g c = record {
+pub invariant_of-quorum : goal.invariant_of-quorum
+invariant_of-quorum g c = record {
   told = told_all c.args.q _ c.all.result (omega arith) (line_is _ _ c.all.result c.min-told.ensures c.all.ensures) c.if-not-is_inside.ensures;
-  top = c.in-Some.ensures;
 }
+
+pub returns-in_err-top-clause-known : goal.returns-in_err-top-clause-known
+returns-in_err-top-clause-known g c = known_settings
 
 pub returns : goal.returns
 returns g c = record {

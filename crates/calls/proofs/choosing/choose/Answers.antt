@@ -1,14 +1,18 @@
-use Rattle.std.proofs.Common.{sym, subst}
-use Rattle.line.specs.declared.types.Work.{Work}
-use Rattle.line.specs.Lines.{last_of}
-use Rattle.line.specs.Seen.{seen}
-use Rattle.calls.specs.Changes.{told_list}
-use Rattle.calls.specs.Choices.{Chooses}
+use Rattle.calls.proofs.Tellers.{holder_told}
 use Rattle.calls.proofs.choosing.choose.Goals as goal
 
-pub returns-in-Read : goal.returns-in-Read
-returns-in-Read g c =
-    let v = seen c.args.m.now in
-    let s = c.args.t.station in
-    subst (λ (work : Work g.row.V.Denot). Chooses (told_list v c.args.t c.args.pair) c.args.q (g.S.QuorumSystem.quorum c.args.system.now) s (last_of v s) work c.read.result)
-    (sym c.in-Read.is) (c.read.ensures s (last_of v s))
+pub holder-requires : goal.holder-requires
+holder-requires g c =
+    let j = rw c.in-OneTrip.is at c.judged-verdict.ensures in
+    holder_told c.args.told.now c.args.q c.requires.told c.in-OneTrip.tag j.0
+
+pub holder-requires-in-SecondTrip : goal.holder-requires-in-SecondTrip
+holder-requires-in-SecondTrip g c =
+    let j = rw c.in-SecondTrip.is at c.judged-verdict.ensures in
+    holder_told c.args.told.now c.args.q c.requires.told c.in-SecondTrip.tag j.0
+
+pub returns-in-OneTrip : goal.returns-in-OneTrip
+returns-in-OneTrip g c = rw c.in-Read.is (c.in-OneTrip.tag, rw c.in-OneTrip.is at c.judged-verdict.ensures, c.holder.ensures)
+
+pub returns-in-SecondTrip : goal.returns-in-SecondTrip
+returns-in-SecondTrip g c = rw c.in-Read.is (c.in-SecondTrip.tag, rw c.in-SecondTrip.is at c.judged-verdict.ensures, c.holder-in-SecondTrip.ensures)

@@ -1,4 +1,4 @@
-use Rattle.std.proofs.Common.{◌≡◌, ℕ, Ok, sym, refl, subst, arith}
+use Rattle.std.proofs.Common.{Ok, sym, refl, subst}
 use Rattle.telegrams.specs.declared.TelegramKind.{TelegramKind}
 use Rattle.line.specs.declared.types.Delivered.TheVariants as answer
 use Rattle.line.specs.Seen.{seen}
@@ -6,13 +6,9 @@ use Rattle.line.specs.Steps.{Handed}
 use Rattle.calls.specs.Changes.{off}
 use Rattle.calls.proofs.deliver.hand_over.Goals as goal
 
-pub returns-in-Set : goal.returns-in-Set
-returns-in-Set g c =
+pub returns-in-Set-clause-step : goal.returns-in-Set-clause-step
+returns-in-Set-clause-step g c =
     let v = seen c.args.m.now in
     let stored = c.answer_set.ensures in
-    record {
-      step = subst (λ (k : TelegramKind g.row.V.Denot). Handed (g.S.QuorumSystem.quorum c.args.system.now) v (off v c.args.place) c.args.t k (Ok answer.Answered) (seen c.answer_set.new.m))
-          (sym c.in-Set.is) (refl, (stored.0, stored.1, stored.2.0));
-      lent = stored.2.1;
-      refused = λ e is. let z : ◌≡◌ {A = ℕ} 0 1 = cc in absurd (omega arith);
-    }
+    subst (λ (k : TelegramKind g.row.V.Denot). Handed (g.S.QuorumSystem.quorum c.args.system.now) v (off v c.args.place) c.args.t k (Ok answer.Answered) (seen c.answer_set.new.m)) (sym c.in-Set.is)
+    (refl, (stored.0, stored.1, stored.2.0))

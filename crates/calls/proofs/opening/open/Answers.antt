@@ -1,5 +1,4 @@
-use Rattle.std.proofs.Common.{◌≡◌, ℕ, List, length, replicate, refl, ap, ◌∙◌, subst, inl, inr, arith}
-use Rattle.words.specs.declared.refusal.Refusal.TheVariants.{BadPlan}
+use Rattle.std.proofs.Common.{ℕ, List, length, replicate, refl, ap, ◌∙◌, subst, inr, arith}
 use Rattle.telegrams.specs.declared.Pair.{Pair}
 use Rattle.line.specs.declared.types.Station.{Station}
 use Rattle.line.specs.Seen.{answers_of}
@@ -8,12 +7,6 @@ use Rattle.line.specs.Runs.{Laws}
 use Rattle.line.proofs.Openings.{after_opening}
 use Rattle.calls.proofs.Views.{idle_answers, same_view}
 use Rattle.calls.proofs.opening.open.Goals as goal
-
-pub returns-then-not-suits : goal.returns-then-not-suits
-returns-then-not-suits g c = record {
-  opens = inl (subst (λ (n : ℕ). Suits n c.args.first.count c.args.m.now → ⊥) c.cabinets.ensures c.if-not-suits.ensures, (BadPlan, refl, refl), refl);
-  order = λ ok. let z : ◌≡◌ {A = ℕ} 0 1 = cc in absurd (omega arith);
-}
 
 pub returns : goal.returns
 returns g c =

@@ -1,5 +1,5 @@
 use Rattle.std.proofs.Common.{refl, ◌∙◌, arith}
-use Rattle.words.specs.PartRows.{fault_at, fits, small_all, too_wide}
+use Rattle.words.specs.PartRows.{fault_at, fits, too_wide}
 use Rattle.words.proofs.mask.check_parts.Goals as goal
 
 pub returns-then-part-gt-MAX_PART : goal.returns-then-part-gt-MAX_PART
@@ -12,6 +12,3 @@ returns-then-part-gt-MAX_PART c =
       at = fault_at ps i (omega arith) ∙ too_wide _ (omega arith);
       carries = refl;
     }
-
-pub returns : goal.returns
-returns c = small_all c.args.parts.now (λ k h. c.loop-place.invariant k (omega arith))

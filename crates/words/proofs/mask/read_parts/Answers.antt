@@ -1,9 +1,8 @@
-use Rattle.std.proofs.Common.{◌≡◌, ℕ, ◌<◌, ◌≢◌, length, get_or, take, refl, ap, ◌∙◌, subst, arith, below_more}
-use Rattle.std.proofs.lemmas.List.{get_or-set_other, get_or-set_same, take_all}
-use Rattle.words.specs.Parts.{parts_run}
+use Rattle.std.proofs.Common.{◌<◌, ◌≢◌, length, get_or, refl, ◌∙◌, arith, below_more}
+use Rattle.std.proofs.lemmas.List.{get_or-set_other, get_or-set_same}
 use Rattle.words.specs.Words.{kind_judge}
 use Rattle.words.specs.Judging.{of_kind, verdict_at}
-use Rattle.words.specs.PartRows.{read_more, row_judged, small_all}
+use Rattle.words.specs.PartRows.{read_more, row_judged}
 use Rattle.words.proofs.mask.read_parts.Goals as goal
 
 pub returns-in_default : goal.returns-in_default
@@ -26,13 +25,4 @@ loop-place-preserved c =
           (rw get_or-set_same got.1),
       below_more _ _ c.loop-place.invariant.1 (row_judged _ ws i (omega arith) ∙ verdict_at (kind_judge 7) ws i got.0 ∙ good),
       read_more ws c.loop-place.parts i c.in-Some.bits got.0 here got.2 c.loop-place.invariant.2,
-    )
-
-pub returns : goal.returns
-returns c =
-    let ps = c.loop-place.parts in
-    let i = c.loop-place.place in
-    let end : i ≡ length ps = omega arith in (
-      small_all ps (λ k h. c.loop-place.invariant.0 k (omega arith)),
-      subst (λ (n : ℕ). take n c.args.words.now ≡ parts_run (take n ps)) end c.loop-place.invariant.2 ∙ ap parts_run (take_all (length ps) ps (omega arith)),
     )

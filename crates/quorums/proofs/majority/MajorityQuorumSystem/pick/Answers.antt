@@ -1,42 +1,36 @@
-use Rattle.std.proofs.Common.{◌≡◌, ℕ, ◌+◌, ◌%◌, ◌^◌, Some, sym, ap, ◌∙◌, subst, arith}
+use Rattle.std.proofs.Common.{◌≡◌, ℕ, ◌+◌, ◌/◌, ◌%◌, ◌^◌, Bool, eqb, ⊎_elim, ap, Some, rules, sym, subst, ◌∙◌, arith}
 use lib.Count.{ones}
+use Rattle.std.specs.Bool.{then_some}
+use Rattle.std.proofs.lemmas.Bool.{eq-eqb, ne_eqb}
+use Rattle.std.proofs.lemmas.Iterator.{YieldsList-from_range, YieldsList-from_take}
+use Rattle.std.proofs.lemmas.Iterator.Consumers.{YieldsList-at, YieldsList-from_filter, fold_from_yields_List}
 use Rattle.quorums.specs.Families.{MajorityOf}
-use Rattle.quorums.specs.Sets.{Picked}
-use Rattle.quorums.specs.Counting.{ones_more}
 use Rattle.quorums.specs.Majorities.{least, too_few}
-use Rattle.quorums.specs.Members.{front_grown, front_without}
+use Rattle.quorums.specs.Sets.{Picked}
+use Rattle.quorums.proofs.Gathers.{FrontOf, front_few, put}
+use Rattle.quorums.proofs.Tests.{joins, joins_same}
 use Rattle.quorums.proofs.majority.MajorityQuorumSystem.pick.Goals as goal
-use Rattle.quorums.proofs.majority.MajorityQuorumSystem.pick.Goals.{then-has+else-taken-needed, else-has}
 
-pub returns-then-taken-needed : goal.returns-then-taken-needed
-returns-then-taken-needed c =
-    let n = c.args.self.now.cabinets in
-    let given = c.args.given in
-    let k = c.loop-k.k in
-    let member = c.if-has.ensures in
-    let front : c.with-chosen.result ≡ given % 2 ^ (k + 1) =
-    front_grown k given c.loop-k.chosen c.with-chosen.result (omega arith) member c.loop-k.invariant.0 c.with-chosen.ensures in
-    subst (λ (s : ℕ). Picked (MajorityOf n) given (Some s)) (sym front)
-    (least n given (k + 1) (omega arith) (omega (arith, ones_more k given, c.loop-k.invariant.1, c.if-taken-needed.true)))
-
-pub loop-k-preserved : goal.loop-k-preserved
-loop-k-preserved c =
-    let given = c.args.given in
-    let k = c.loop-k.k in
-    elim c.if-has.branch [
-      | then-has+else-taken-needed w ↦
-          let front : w.with-chosen.result ≡ given % 2 ^ (k + 1) =
-          front_grown k given c.loop-k.chosen w.with-chosen.result (omega arith) w.if-has.ensures c.loop-k.invariant.0 w.with-chosen.ensures in
-          let counted : c.if-has.taken ≡ ones (given % 2 ^ (k + 1)) = omega (arith, w.taken-is, ones_more k given, w.if-has.ensures, c.loop-k.invariant.1) in
-          (w.chosen-is ∙ front, counted, omega (arith, w.taken-is, w.if-taken-needed.false, c.loop-k.invariant.2))
-      | else-has w ↦
-          let front = front_without k given w.if-has.ensures in
-          (w.chosen-is ∙ c.loop-k.invariant.0 ∙ front, w.taken-is ∙ c.loop-k.invariant.1 ∙ ap ones front, omega (arith, w.taken-is, c.loop-k.invariant.2))
-    ]
+-- the front that has enough members is picked, and none if there are too few
+few : (n given r wanted : ℕ) → FrontOf given n wanted r → wanted ≡ n / 2 + 1 → Picked (MajorityOf n) given (then_some (eqb (ones r) wanted) r)
+few n given r wanted f e =
+    ⊎_elim
+    (λ enough.
+    subst (λ (b : Bool). Picked (MajorityOf n) given (then_some b r)) (sym (eq-eqb (ones r) wanted enough))
+    (subst (λ (s : ℕ). Picked (MajorityOf n) given (Some s)) (sym f.2) (least n given f.0 f.1 (ap ones (sym f.2) ∙ enough ∙ e))))
+    (λ short.
+    subst (λ (b : Bool). Picked (MajorityOf n) given (then_some b r)) (sym (ne_eqb (ones r) wanted (λ same. omega (arith, short.1))))
+    (too_few n given (omega (arith, short.1, ap ones (f.2 ∙ ap (λ (k : ℕ). given % 2 ^ k) short.0)))))
+    f.3
 
 pub returns : goal.returns
 returns c =
-    let n = c.args.self.now.cabinets in
-    let end : c.loop-k.k ≡ n = omega arith in
-    too_few n c.args.given
-    (omega (arith, c.loop-k.invariant.1, c.loop-k.invariant.2, ap (λ (k : ℕ). ones (c.args.given % 2 ^ k)) end))
+    let n = c.args.self.now.cabinets.count in
+    let given = c.args.given in
+    let wanted = c.from-2.result in
+    let e = fold_from_yields_List _ put 0 c.fold-chosen.result c.fold-chosen.ensures.ran
+    (YieldsList-from_take wanted (YieldsList-at c.take.ensures.source (YieldsList-from_filter _ (joins given) (YieldsList-from_range 0 n n (cc) (omega arith)) c.filter.ensures.closure (λ x r q k. search (rules, joins_same)))) (cc))
+    (λ a x b q k. search rules) in
+    let r = c.fold-chosen.result in
+    subst (Picked (MajorityOf n) given) (sym c.then_some.ensures)
+    (few n given r wanted (subst (FrontOf given n wanted) (sym e) (front_few given wanted n (omega arith))) (omega arith))
