@@ -2,6 +2,9 @@
 #![tactic(auto)]
 
 #[cfg(test)]
+mod refusals;
+
+#[cfg(test)]
 mod tests {
     use quorums::QuorumSystem;
     use quorums::grid::Grid;
