@@ -16,6 +16,7 @@ use Rattle.quorums.specs.Majorities.{least, majority_member, majority_share, too
 use Rattle.quorums.specs.Members.{member_below}
 use Rattle.views.specs.Views.{Held, Judged, Latest, told}
 use Rattle.views.specs.declared.Verdict.TheVariants.{SecondTrip}
+use Rattle.views.proofs.Known.{two}
 use Rattle.line.specs.declared.types.Collected.TheVariants as result
 use Rattle.line.specs.declared.types.Delivered.TheVariants as answer
 use Rattle.line.specs.declared.types.Hand.{Hand}
@@ -40,12 +41,6 @@ picks = least 3 3 2 (lit≤ tt) refl
 ones_5 : ones 5 ≡ 2
 unfolding ones ones_in
 ones_5 = refl
-
--- the members of {0,1}
-two : (P : ℕ → Type 0) → P 0 → P 1 → (k : ℕ) → Member k 3 → P k
-two P a b zero m = a
-two P a b (suc zero) m = b
-two P a b (suc (suc k)) m = absurd (omega (arith, member_below 2 (suc (suc k)) 3 (lit< tt) m))
 
 -- where {0,1} told two tags, cabinet 0 the later one, a read needs a second trip: {0,2} shares with {0,1} cabinet 0 alone
 judged : (t1 t2 t3 : Tag) → Before t1 t2 → Judged (t2 ∷ t1 ∷ t3 ∷ []) 3 (MajorityOf 3) (SecondTrip t2) 0

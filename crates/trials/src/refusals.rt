@@ -152,14 +152,13 @@ fn opening(rt: HostRuntime) -> Result<(), Fail> {
     Ok(())
 }
 
-// The refusal of a begin. A ticket that should not be there is given up.
-fn begin_refused(
+// The refusal of a begin or a claim. A ticket that should not be there is given up.
+fn refused(
+    r: Result<Ticket, Refusal>,
     m: &mut Memory<'_, Speed>,
     system: &Majority,
-    station: u8,
-    work: Work<Speed>,
 ) -> Option<Refusal> {
-    match begin(system, m, station, work) {
+    match r {
         Ok(ticket) => {
             let _ = give_up(system, m, ticket);
             None
@@ -168,44 +167,41 @@ fn begin_refused(
     }
 }
 
-fn claim_refused(m: &mut Memory<'_, Speed>, system: &Majority, station: u8) -> Option<Refusal> {
-    match claim(system, m, station) {
-        Ok(ticket) => {
-            let _ = give_up(system, m, ticket);
-            None
+// A collect or a shelve is refused so, and hands the ticket back.
+fn handed_back<R: Drop>(rt: &impl Abort, r: Result<R, HandedBack>, wanted: Refusal) -> Ticket {
+    match r {
+        Ok(_) => panic!(rt; "not refused"),
+        Err(HandedBack { refusal, ticket }) => {
+            assert_eq!(rt; refusal, wanted);
+            ticket
         }
-        Err(e) => Some(e),
     }
 }
 
-// Collecting and shelving are refused so, and hand the ticket back.
-fn handed_back(
+// Collect and shelve are both refused so.
+fn kept_out(
     rt: &impl Abort,
     m: &mut Memory<'_, Speed>,
     system: &Majority,
     ticket: Ticket,
-    collects: Refusal,
-    shelves: Refusal,
+    wanted: Refusal,
 ) -> Ticket {
-    let station = ticket.station();
-    let job = ticket.job();
-    let ticket = match collect(system, m, ticket) {
-        Ok(_) => panic!(rt; "collected"),
-        Err(HandedBack { refusal, ticket }) => {
-            assert_eq!(rt; refusal, collects);
-            ticket
-        }
+    let ticket = handed_back(rt, collect(system, m, ticket), wanted);
+    handed_back(rt, shelve(system, m, ticket), wanted)
+}
+
+// Station 1 begins a read and shelves its ticket.
+fn shelved(system: &Majority, m: &mut Memory<'_, Speed>) -> bool {
+    let Ok(ticket) = begin(system, m, 1, Work::Read) else {
+        return false;
     };
-    let ticket = match shelve(system, m, ticket) {
-        Ok(()) => panic!(rt; "shelved"),
-        Err(HandedBack { refusal, ticket }) => {
-            assert_eq!(rt; refusal, shelves);
-            ticket
+    match shelve(system, m, ticket) {
+        Ok(()) => true,
+        Err(HandedBack { refusal: _, ticket }) => {
+            let _ = give_up(system, m, ticket);
+            false
         }
-    };
-    assert_eq!(rt; ticket.station(), station);
-    assert_eq!(rt; ticket.job(), job);
-    ticket
+    }
 }
 
 #[test]
@@ -219,21 +215,17 @@ fn memory_that_is_not_sound(rt: HostRuntime) -> Result<(), Fail> {
     m.sent = 9;
     found.note(&m);
     assert_eq!(rt;
-        begin_refused(&mut m, &system, 2, Work::Read),
+        refused(begin(&system, &mut m, 2, Work::Read), &mut m, &system),
         Some(Refusal::BadPlan)
     );
     assert_eq!(rt; deliver(&system, &mut m, 0), Err(Refusal::BadPlan));
     assert_eq!(rt; lose(&system, &mut m, 0), Err(Refusal::BadPlan));
     assert_eq!(rt; double(&system, &mut m, 0), Err(Refusal::BadPlan));
-    assert_eq!(rt; claim_refused(&mut m, &system, 1), Some(Refusal::BadPlan));
-    let ticket = handed_back(
-        &rt,
-        &mut m,
-        &system,
-        ticket,
-        Refusal::BadPlan,
-        Refusal::BadPlan,
+    assert_eq!(rt;
+        refused(claim(&system, &mut m, 1), &mut m, &system),
+        Some(Refusal::BadPlan)
     );
+    let ticket = kept_out(&rt, &mut m, &system, ticket, Refusal::BadPlan);
     assert_eq!(rt; give_up(&system, &mut m, ticket), Err(Refusal::BadPlan));
     assert!(rt; found.stays(&m));
     Ok(())
@@ -249,15 +241,15 @@ fn begins(rt: HostRuntime) -> Result<(), Fail> {
     let ticket = begin(&system, &mut m, 1, Work::Write(Speed(800)))?;
     found.note(&m);
     assert_eq!(rt;
-        begin_refused(&mut m, &system, 0, Work::Read),
+        refused(begin(&system, &mut m, 0, Work::Read), &mut m, &system),
         Some(Refusal::NoStation)
     );
     assert_eq!(rt;
-        begin_refused(&mut m, &system, 3, Work::Read),
+        refused(begin(&system, &mut m, 3, Work::Read), &mut m, &system),
         Some(Refusal::NoStation)
     );
     assert_eq!(rt;
-        begin_refused(&mut m, &system, 1, Work::Read),
+        refused(begin(&system, &mut m, 1, Work::Read), &mut m, &system),
         Some(Refusal::HandsFull)
     );
     assert!(rt; found.stays(&m));
@@ -265,7 +257,7 @@ fn begins(rt: HostRuntime) -> Result<(), Fail> {
     let ticket = begin(&system, &mut m, 1, Work::Read)?;
     found.note(&m);
     assert_eq!(rt;
-        begin_refused(&mut m, &system, 2, Work::Read),
+        refused(begin(&system, &mut m, 2, Work::Read), &mut m, &system),
         Some(Refusal::BusFull)
     );
     assert!(rt; found.stays(&m));
@@ -284,7 +276,11 @@ fn a_full_journal(rt: HostRuntime) -> Result<(), Fail> {
     found.note(&m);
     // one row is written and one owed: two are free
     assert_eq!(rt;
-        begin_refused(&mut m, &system, 2, Work::Write(Speed(1))),
+        refused(
+            begin(&system, &mut m, 2, Work::Write(Speed(1))),
+            &mut m,
+            &system
+        ),
         Some(Refusal::BookFull)
     );
     assert!(rt; found.stays(&m));
@@ -292,13 +288,13 @@ fn a_full_journal(rt: HostRuntime) -> Result<(), Fail> {
     let ticket = begin(&system, &mut m, 1, Work::Read)?;
     found.note(&m);
     assert_eq!(rt;
-        begin_refused(&mut m, &system, 2, Work::Read),
+        refused(begin(&system, &mut m, 2, Work::Read), &mut m, &system),
         Some(Refusal::BusFull)
     );
     assert_eq!(rt; lose(&system, &mut m, 0), Ok(()));
     found.note(&m);
     assert_eq!(rt;
-        begin_refused(&mut m, &system, 2, Work::Read),
+        refused(begin(&system, &mut m, 2, Work::Read), &mut m, &system),
         Some(Refusal::BookFull)
     );
     assert!(rt; found.stays(&m));
@@ -366,7 +362,31 @@ fn strange_telegrams(rt: HostRuntime) -> Result<(), Fail> {
 }
 
 #[test]
-fn tickets(rt: HostRuntime) -> Result<(), Fail> {
+fn claims(rt: HostRuntime) -> Result<(), Fail> {
+    let system = Majority::new(3)?;
+    let mut lent = Lent::new(rt.alloc(), 8, 16)?;
+    let mut m = lent.memory();
+    let mut found = Found::of(rt.alloc(), &m)?;
+    assert_eq!(rt; open(&system, FIRST, &mut m), Ok(()));
+    let ticket = begin(&system, &mut m, 1, Work::Read)?;
+    found.note(&m);
+    for station in [0, 3] {
+        let r = claim(&system, &mut m, station);
+        assert_eq!(rt; refused(r, &mut m, &system), Some(Refusal::NoStation));
+    }
+    // one has a job whose ticket is out, the other none
+    for station in [1, 2] {
+        let r = claim(&system, &mut m, station);
+        assert_eq!(rt; refused(r, &mut m, &system), Some(Refusal::StrangeTicket));
+    }
+    let ticket = handed_back(&rt, collect(&system, &mut m, ticket), Refusal::NotOver);
+    assert!(rt; found.stays(&m));
+    assert_eq!(rt; give_up(&system, &mut m, ticket), Ok(()));
+    Ok(())
+}
+
+#[test]
+fn strange_tickets(rt: HostRuntime) -> Result<(), Fail> {
     let system = Majority::new(3)?;
     let mut lent = Lent::new(rt.alloc(), 8, 16)?;
     let mut m = lent.memory();
@@ -375,42 +395,18 @@ fn tickets(rt: HostRuntime) -> Result<(), Fail> {
     let mut found = Found::of(rt.alloc(), &m)?;
     assert_eq!(rt; open(&system, FIRST, &mut m), Ok(()));
     assert_eq!(rt; open(&system, FIRST, &mut other), Ok(()));
-    found.note(&m);
-    assert_eq!(rt; claim_refused(&mut m, &system, 0), Some(Refusal::NoStation));
-    assert_eq!(rt; claim_refused(&mut m, &system, 3), Some(Refusal::NoStation));
-    assert_eq!(rt;
-        claim_refused(&mut m, &system, 1),
-        Some(Refusal::StrangeTicket)
-    );
-    assert!(rt; found.stays(&m));
     let ticket = begin(&system, &mut m, 1, Work::Read)?;
-    found.note(&m);
-    assert_eq!(rt;
-        claim_refused(&mut m, &system, 1),
-        Some(Refusal::StrangeTicket)
-    );
-    let ticket = match collect(&system, &mut m, ticket) {
-        Ok(_) => panic!(rt; "collected"),
-        Err(HandedBack { refusal, ticket }) => {
-            assert_eq!(rt; refusal, Refusal::NotOver);
-            ticket
-        }
-    };
-    assert!(rt; found.stays(&m));
-    // the other line has no such job in hand
+    // the other line has no job in hand
     found.note(&other);
-    let ticket = handed_back(
-        &rt,
-        &mut other,
-        &system,
-        ticket,
-        Refusal::StrangeTicket,
-        Refusal::StrangeTicket,
-    );
-    assert_eq!(rt;
-        give_up(&system, &mut other, ticket),
-        Err(Refusal::StrangeTicket)
-    );
+    let ticket = kept_out(&rt, &mut other, &system, ticket, Refusal::StrangeTicket);
+    assert!(rt; found.stays(&other));
+    // and then one of the same station and number that is shelved
+    assert!(rt; shelved(&system, &mut other));
+    found.note(&other);
+    let ticket = kept_out(&rt, &mut other, &system, ticket, Refusal::StrangeTicket);
+    assert_eq!(rt; (ticket.station(), ticket.job()), (1, 0));
+    let r = give_up(&system, &mut other, ticket);
+    assert_eq!(rt; r, Err(Refusal::StrangeTicket));
     assert!(rt; found.stays(&other));
     Ok(())
 }

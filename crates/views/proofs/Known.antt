@@ -34,7 +34,7 @@ three P a b c (suc zero) m = b
 three P a b c (suc (suc zero)) m = c
 three P a b c (suc (suc (suc k))) m = absurd (omega (arith, member_below 3 (suc (suc (suc k))) 7 (lit< tt) m))
 
-two : (P : ℕ → Type 0) → P 0 → P 1 → (k : ℕ) → Member k 3 → P k
+pub two : (P : ℕ → Type 0) → P 0 → P 1 → (k : ℕ) → Member k 3 → P k
 two P a b zero m = a
 two P a b (suc zero) m = b
 two P a b (suc (suc k)) m = absurd (omega (arith, member_below 2 (suc (suc k)) 3 (lit< tt) m))
