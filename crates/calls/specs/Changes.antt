@@ -23,7 +23,7 @@ module _ {V : Type 0} where
   abbrev pub IsCabinet : Memory V → ℕ → Type 0
   IsCabinet m cabinet = cabinet < length m.replicas.now
 
-  -- the cabinet's answers to all stations have their places
+  -- the cabinet, one of at most 16, has its places for answers to all stations
   abbrev pub HasAnswers : Memory V → ℕ → Type 0
   HasAnswers m cabinet =
       IsCabinet m cabinet × (length m.replicas.now ≤ 16) × (length m.answers.now ≡ length m.replicas.now * length m.stations.now)

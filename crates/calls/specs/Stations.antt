@@ -31,6 +31,6 @@ module _ {V : Type 0} where
   abbrev pub HasRow : StationMemory V → Type 0
   HasRow a = a.m.now.written < length a.m.now.journal.now
 
-  -- the bus has a place for a telegram to each cabinet
+  -- the bus has a place for a telegram to each cabinet, of which there are at most 16
   abbrev pub HasPlaces : StationMemory V → Type 0
   HasPlaces a = (length a.m.now.replicas.now ≤ 16) × (a.m.now.sent + length a.m.now.replicas.now ≤ length a.m.now.bus.now)
