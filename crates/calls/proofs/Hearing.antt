@@ -67,7 +67,7 @@ module _ {V : Type 0} {n : ℕ} {m : Memory V} {place : ℕ} {t : Telegram V} {h
   pub may_read : Placed m t
   may_read = (x.fits, x.sound.0.3, omega (arith, x.few, x.sound.0.1), wide)
 
-  now_told : hand.told ≡ bit_or h.told (2 ^ t.cabinet)
+  pub now_told : hand.told ≡ bit_or h.told (2 ^ t.cabinet)
   now_told = ap (λ (k : Hand V). k.told) x.counts.3.3
 
   -- what keeping it asks
@@ -139,7 +139,7 @@ module _ {V : Type 0} {n : ℕ} {m : Memory V} {place : ℕ} {t : Telegram V} {h
         (cases_eq k t.cabinet))
 
     module _ (choice : Choice V) (told : List (Option (Pair V))) (last : ℕ) (listed : told ≡ told_list v t pair) (own : last ≡ last_of v s) (chose : Chooses told q F s last hand.work choice) where
-      chooses : Chooses (map (w.answers s) (range_with_len 0 (size w))) q F s (last_of w s) hand.work choice
+      pub chooses : Chooses (map (w.answers s) (range_with_len 0 (size w))) q F s (last_of w s) hand.work choice
       chooses =
           subst (λ (l : ℕ). Chooses (map (w.answers s) (range_with_len 0 (size w))) q F s l hand.work choice) (own ∙ sym own_last)
           (subst (λ (f : ℕ → Option (Pair V)). Chooses (map f (range_with_len 0 (size v))) q F s last hand.work choice) (sym own_told)

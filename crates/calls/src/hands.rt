@@ -1,5 +1,5 @@
 // The jobs in the stations' hands.
-ghost use Rattle.std.specs.Prelude.{◌≡◌, ◌+◌, ◌-◌, ◌*◌, ◌^◌, length, Some, None, MatchBool, bit_or};
+ghost use Rattle.std.specs.Prelude.{◌≡◌, ◌+◌, ◌-◌, ◌*◌, ◌^◌, length, Some, None, MatchBool, bit_or, option_copied};
 ghost use Rattle.line.specs.declared.types.Hand.{Hand};
 ghost use Rattle.line.specs.Lines.{IsStation, change, hand_of, hold, last_of, put as put_at, station_at};
 ghost use Rattle.line.specs.Seen.{seen};
@@ -18,23 +18,24 @@ pub(crate) fn is_station<V>(m: &Memory<'_, V>, station: u8) -> bool
 }
 
 // The station's record. Readers have the memory by &, which StationMemory, with its &mut, cannot hold: so they take the number.
-fn station_at<V: Copy>(m: &Memory<'_, V>, station: u8) -> Station<V>
+fn station_at<'a, V>(m: &'a Memory<'_, V>, station: u8) -> &'a Station<V>
     requires { IsStation (seen m.now) station }
-    ensures { result ≡ station_at m.now.stations.now station }
+    ensures { result.now ≡ station_at m.now.stations.now station }
 {
-    m.stations[usize::from(station) - 1]
+    let stations = &*m.stations;
+    &stations[usize::from(station) - 1]
 }
 
-// The station's job in hand.
-pub(crate) fn hand_at<V: Copy>(m: &Memory<'_, V>, station: u8) -> Option<Hand<V>>
+// The station's job in hand, where it lies: a copy is made only of what goes on.
+pub(crate) fn hand_at<'a, V>(m: &'a Memory<'_, V>, station: u8) -> Option<&'a Hand<V>>
     requires { IsStation (seen m.now) station }
-    ensures { result ≡ hand_of (seen m.now) station }
+    ensures { option_copied result ≡ hand_of (seen m.now) station }
 {
-    station_at(m, station).hand
+    station_at(m, station).hand.as_ref()
 }
 
 // The station's own last count.
-pub(crate) fn last_at<V: Copy>(m: &Memory<'_, V>, station: u8) -> u32
+pub(crate) fn last_at<V>(m: &Memory<'_, V>, station: u8) -> u32
     requires { IsStation (seen m.now) station }
     ensures { result ≡ last_of (seen m.now) station }
 {
@@ -50,8 +51,8 @@ pub(crate) fn answer_place<V>(m: &Memory<'_, V>, station: u8, cabinet: u8) -> us
 }
 
 // The job in hand that a ticket stands for.
-pub(crate) fn in_hand<V: Copy>(m: &Memory<'_, V>, station: u8, job: u16) -> Option<Hand<V>>
-    ensures { Found (seen m.now) station job result }
+pub(crate) fn in_hand<'a, V>(m: &'a Memory<'_, V>, station: u8, job: u16) -> Option<&'a Hand<V>>
+    ensures { Found (seen m.now) station job (option_copied result) }
 {
     if !is_station(m, station) {
         return None;
@@ -92,7 +93,7 @@ impl<'l, 'm, V: Copy> StationMemory<'l, 'm, V> {
     pub(crate) fn raise_last(&mut self, last: u32)
         ensures { Goes self.old (change (line self.old) self.old.station last (hand_of (line self.old) self.old.station) ((line self.old).answers self.old.station)) self.new }
     {
-        let hand = hand_at(self.m, self.station);
+        let hand = hand_at(self.m, self.station).copied();
         self.change(last, hand);
     }
 

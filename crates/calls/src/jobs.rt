@@ -1,4 +1,5 @@
 // What a ticket is good for: collect, give up and shelve use it up, claim gives it back.
+ghost use Rattle.std.specs.Prelude.{Ok, Err, MatchResult};
 ghost use Rattle.line.specs.Lines.{given_row, note};
 ghost use Rattle.line.specs.Memories.{Called};
 ghost use Rattle.line.specs.Runs.{claimed, collected, gave_up, shelved};
@@ -14,25 +15,25 @@ use quorums::QuorumSystem;
 use words::refusal::Refusal;
 
 // The job in hand that a ticket stands for.
-fn job_of<V: Copy, S: QuorumSystem>(
+fn job_of<'a, V: Copy, S: QuorumSystem>(
     system: &S,
-    m: &Memory<'_, V>,
+    m: &'a Memory<'_, V>,
     station: u8,
     job: u16,
-) -> Result<Hand<V>, Refusal>
-    ensures { JobOf (S.size system.now) m.now station job result }
+) -> Result<&'a Hand<V>, Refusal>
+    ensures { MatchResult result (λ h. JobOf (S.size system.now) m.now station job (Ok h.now)) (λ e. JobOf (S.size system.now) m.now station job (Err e)) }
 {
     check(system, m)?;
     in_hand(m, station, job).ok_or(Refusal::StrangeTicket)
 }
 
 // A ticket with the job that it stands for, or the ticket handed back.
-fn shown<V: Copy, S: QuorumSystem>(
+fn shown<'a, V: Copy, S: QuorumSystem>(
     system: &S,
-    m: &Memory<'_, V>,
+    m: &'a Memory<'_, V>,
     ticket: Ticket,
-) -> Result<(Ticket, Hand<V>), HandedBack>
-    ensures { Shown (S.size system.now) m.now ticket result }
+) -> Result<(Ticket, &'a Hand<V>), HandedBack>
+    ensures { MatchResult result (λ (t, h). Shown (S.size system.now) m.now ticket (Ok (t, h.now))) (λ b. Shown (S.size system.now) m.now ticket (Err b)) }
 {
     match job_of(system, m, ticket.station, ticket.job) {
         Ok(hand) => Ok((ticket, hand)),
@@ -62,10 +63,11 @@ pub fn shelve<V: Copy, S: QuorumSystem>(
 {
     let (ticket, hand) = shown(system, m, ticket)?;
     let Ticket { station, job: _ } = ticket;
-    StationMemory { m, station }.hold(Hand {
+    let hand = Hand {
         shelved: true,
-        ..hand
-    });
+        ..*hand
+    };
+    StationMemory { m, station }.hold(hand);
     Ok(())
 }
 
@@ -81,7 +83,7 @@ pub fn claim<V: Copy, S: QuorumSystem>(
     if !is_station(m, station) {
         return Err(Refusal::NoStation);
     }
-    let Some(hand) = hand_at(m, station).filter(|hand| hand.shelved) else {
+    let Some(hand) = hand_at(m, station).filter(|hand| hand.shelved).copied() else {
         return Err(Refusal::StrangeTicket);
     };
     StationMemory { m, station }.hold(Hand {
@@ -137,8 +139,9 @@ pub fn give_up<V: Copy, S: QuorumSystem>(
 {
     let Ticket { station, job } = ticket;
     let hand = job_of(system, m, station, job)?;
+    let over = result_of(&hand.stage).is_some();
     let mut at = StationMemory { m, station };
-    if result_of(&hand.stage).is_some() {
+    if over {
         at.free();
     } else {
         at.abandon(job);

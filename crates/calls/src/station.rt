@@ -148,7 +148,10 @@ pub(crate) fn at_station<V: Copy, S: QuorumSystem>(
     ensures lent { Lends m.old m.new }
     ensures refused { (e : Refusal) → result ≡ Err e → m.new ≡ m.old }
 {
-    let Some(mut hand) = hand_at(m, t.station).filter(|hand| hand.job == t.job) else {
+    let Some(mut hand) = hand_at(m, t.station)
+        .filter(|hand| hand.job == t.job)
+        .copied()
+    else {
         take_off(m, place);
         return Ok(Delivered::Nothing);
     };

@@ -79,14 +79,10 @@ pub fn check_sizes<V, S: QuorumSystem>(system: &S, m: &Memory<'_, V>) -> Result<
     ensures order { (first : First V) (stations bus_places journal_places : ℕ) → OrderOfJobs (S.quorum system.now) first (S.size system.now) stations bus_places journal_places }
     ensures single { OneResult V (S.quorum system.now) }
 {
-    if suits(system.cabinets(), m.first.count, m)
+    let fit = suits(system.cabinets(), m.first.count, m)
         && m.sent <= m.bus.len()
-        && m.written <= m.journal.len()
-    {
-        Ok(())
-    } else {
-        Err(Refusal::BadPlan)
-    }
+        && m.written <= m.journal.len();
+    fit.then_some(()).ok_or(Refusal::BadPlan)
 }
 
 // Does nothing. Its contract holds the theorems about the steps, for every kind of value and every quorum system: the order

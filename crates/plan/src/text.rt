@@ -1,6 +1,7 @@
 // Sets of cabinets and tags as text.
-use anyhow::{Context, bail};
+use anyhow::bail;
 use quorums::sets::{has, with};
+use std::error::Error;
 use std::fmt;
 use std::str::FromStr;
 use words::tag::Tag;
@@ -45,17 +46,29 @@ impl fmt::Display for CabinetSet {
 #[derive(Clone, Copy, PartialEq, Eq, Debug)]
 pub(crate) struct ToldTag(pub(crate) Tag);
 
-impl FromStr for ToldTag {
-    type Err = anyhow::Error;
+// The text is no tag. A small error, since each tag of a request is returned beside its place.
+#[derive(Clone, Copy, PartialEq, Eq, Debug)]
+pub(crate) struct NoTag;
 
-    fn from_str(text: &str) -> anyhow::Result<ToldTag> {
+impl fmt::Display for NoTag {
+    fn fmt<W: fmt::Write>(&self, f: &mut fmt::Formatter<W>) -> fmt::Result {
+        f.write_str("a tag is COUNT.OWNER")
+    }
+}
+
+impl Error for NoTag {}
+
+impl FromStr for ToldTag {
+    type Err = NoTag;
+
+    fn from_str(text: &str) -> Result<ToldTag, NoTag> {
         let tag = text.split_once('.').and_then(|(count, owner)| {
             Some(Tag {
                 count: count.parse().ok()?,
                 owner: owner.parse().ok()?,
             })
         });
-        tag.map(ToldTag).context("a tag is COUNT.OWNER")
+        tag.map(ToldTag).ok_or(NoTag)
     }
 }
 

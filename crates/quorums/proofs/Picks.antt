@@ -1,7 +1,6 @@
 -- Picking among sets that come one after the other.
-use Rattle.std.proofs.Common.{◌≡◌, ℕ, zero, suc, min, ◌∷◌, [], ◌++◌, ◌⊎◌, true, false, cond, ap, List, MatchBool, Some, None, Option, refl, sym, subst, inl, inr, ⊎_elim, arith}
-use Rattle.std.specs.List.{filter, reduce}
-use Rattle.std.specs.Option.{option_to_list}
+use Rattle.std.proofs.Common.{◌≡◌, ℕ, zero, suc, min, ◌∷◌, [], ◌⊎◌, true, false, cond, ap, List, MatchBool, Some, None, Option, refl, sym, subst, inl, inr, ⊎_elim, arith}
+use Rattle.std.specs.List.{filter, fold}
 use Rattle.std.proofs.lemmas.Bool.{cases_lt}
 use Rattle.quorums.specs.Families.{TableOf}
 use Rattle.quorums.specs.Sets.{Inside, Picked, lesser}
@@ -9,7 +8,7 @@ use Rattle.quorums.proofs.Tests.{lies, lies_so}
 
 -- G is F with the set s besides
 module _ (F G : ℕ → Type 0) (given s : ℕ) (old : (t : ℕ) → F t → G t) (new : G s) (cases : (t : ℕ) → G t → F t ⊎ (t ≡ s)) where
-  pick_more : (best : Option ℕ) → Picked F given best → Inside s given → Picked G given (Some (lesser best s))
+  pub pick_more : (best : Option ℕ) → Picked F given best → Inside s given → Picked G given (Some (lesser best s))
   pick_more None p i = (new, i, λ t m j. ⊎_elim (λ f. absurd (p t f j)) (λ e. omega arith) (cases t m))
   pick_more (Some b) p i =
       ⊎_elim
@@ -19,7 +18,7 @@ module _ (F G : ℕ → Type 0) (given s : ℕ) (old : (t : ℕ) → F t → G t
       (new, i, λ t m j. ⊎_elim (λ f. omega (arith, p.2 t f j)) (λ e. omega arith) (cases t m)))
       (cases_lt b s)
 
-  pick_same : (best : Option ℕ) → Picked F given best → (Inside s given → ⊥) → Picked G given best
+  pub pick_same : (best : Option ℕ) → Picked F given best → (Inside s given → ⊥) → Picked G given best
   pick_same None p out = λ t m j. ⊎_elim (λ f. p t f j) (λ e. out (subst (λ (x : ℕ). Inside x given) e j)) (cases t m)
   pick_same (Some b) p out = (
     old b p.0,
@@ -43,37 +42,31 @@ front s list t e = (0, omega arith, sym e)
 later : (s : ℕ) (list : List ℕ) (t : ℕ) → TableOf list t → TableOf (s ∷ list) t
 later s list t m = (suc m.0, omega (arith, m.1), m.2)
 
--- the least of those that lie inside
-abbrev pub least_of : ℕ → Option ℕ → List ℕ → Option ℕ
-least_of given best list = reduce min (option_to_list best ++ filter (lies given) list)
-
--- one more set that lies inside is taken into the best so far
-joined : (best : Option ℕ) (s : ℕ) (list : List ℕ) → reduce min (option_to_list (Some (lesser best s)) ++ list) ≡ reduce min (option_to_list best ++ (s ∷ list))
-joined None s list = refl
-joined (Some b) s list = refl
+-- the best so far with one set more
+abbrev pub better : Option ℕ → ℕ → Option ℕ
+better best s = Some (lesser best s)
 
 module _ (given : ℕ) where
-  least_on : (F : ℕ → Type 0) (best : Option ℕ) (list : List ℕ) → Picked F given best → Picked (λ t. F t ⊎ TableOf list t) given (least_of given best list)
-  least_on F None [] p = pick_like F (λ t. F t ⊎ TableOf [] t) given (λ t f. inl f) (λ t m. ⊎_elim (λ f. f) (λ l. absurd (omega (arith, l.1))) m) None p
-  least_on F (Some b) [] p = pick_like F (λ t. F t ⊎ TableOf [] t) given (λ t f. inl f) (λ t m. ⊎_elim (λ f. f) (λ l. absurd (omega (arith, l.1))) m) (Some b) p
+  least_on : (F : ℕ → Type 0) (best : Option ℕ) (list : List ℕ) → Picked F given best → Picked (λ t. F t ⊎ TableOf list t) given (fold better best (filter (lies given) list))
+  least_on F best [] p = pick_like F (λ t. F t ⊎ TableOf [] t) given (λ t f. inl f) (λ t m. ⊎_elim (λ f. f) (λ l. absurd (omega (arith, l.1))) m) best p
   least_on F best (s ∷ list) p =
       let G : ℕ → Type 0 = λ t. F t ⊎ (t ≡ s) in
       let rest = filter (lies given) list in
       pick_like (λ t. G t ⊎ TableOf list t) (λ t. F t ⊎ TableOf (s ∷ list) t) given
       (λ t m. ⊎_elim (λ g. ⊎_elim (λ f. inl f) (λ e. inr (front s list t e)) g) (λ l. inr (later s list t l)) m)
       (λ t m. ⊎_elim (λ f. inl (inl f)) (λ l. ⊎_elim (λ e. inl (inr e)) (λ k. inr k) (first_or_later s list t l)) m)
-      (reduce min (option_to_list best ++ cond (lies given s) (s ∷ rest) rest))
-      (elim (lies given s) as (λ b. MatchBool b (Inside s given) (Inside s given → ⊥) → Picked (λ t. G t ⊎ TableOf list t) given (reduce min (option_to_list best ++ cond b (s ∷ rest) rest))) [
-        | true ↦ λ i. subst (Picked (λ t. G t ⊎ TableOf list t) given) (joined best s rest) (least_on G (Some (lesser best s)) list (pick_more F G given s (λ t f. inl f) (inr refl) (λ t m. m) best p i))
+      (fold better best (cond (lies given s) (s ∷ rest) rest))
+      (elim (lies given s) as (λ b. MatchBool b (Inside s given) (Inside s given → ⊥) → Picked (λ t. G t ⊎ TableOf list t) given (fold better best (cond b (s ∷ rest) rest))) [
+        | true ↦ λ i. least_on G (better best s) list (pick_more F G given s (λ t f. inl f) (inr refl) (λ t m. m) best p i)
         | false ↦ λ out. least_on G best list (pick_same F G given s (λ t f. inl f) (inr refl) (λ t m. m) best p out)
       ] (lies_so given s))
 
   -- the pick of the sets in a list
-  pub least_listed : (list : List ℕ) → Picked (TableOf list) given (reduce min (filter (lies given) list))
+  pub least_listed : (list : List ℕ) → Picked (TableOf list) given (fold better None (filter (lies given) list))
   least_listed list =
       let none : ℕ → Type 0 = λ t. ⊥ in
       pick_like (λ t. none t ⊎ TableOf list t) (TableOf list) given (λ t m. ⊎_elim (λ n. absurd n) (λ l. l) m) (λ t l. inr l)
-      (least_of given None list) (least_on none None list (λ t n i. n))
+      (fold better None (filter (lies given) list)) (least_on none None list (λ t n i. n))
 
 -- a pick is one
 pub picked_same : (F : ℕ → Type 0) (given : ℕ) (a b : Option ℕ) → Picked F given a → Picked F given b → a ≡ b

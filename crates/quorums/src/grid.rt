@@ -6,9 +6,9 @@ ghost use Rattle.quorums.specs.Families.{CrossOf, GridOf};
 ghost use Rattle.quorums.specs.Grids.{grid_member, grid_share, cross_grid, cross_some};
 ghost use Rattle.quorums.specs.Grids;
 
-use crate::QuorumSystem;
 use crate::cabinets::Cabinets;
-use crate::sets::{is_inside, with};
+use crate::sets::{is_inside, least, with};
+use crate::{MAX_CABINETS, QuorumSystem};
 use words::refusal::Refusal;
 
 // Cabinet k stands in row k ÷ columns and column k mod columns.
@@ -39,11 +39,17 @@ impl Grid {
     fn cross(&self, at: u8) -> u16
         ensures { CrossOf self.now.cabinets.count self.now.columns at result }
     {
-        (0..self.cabinets.count())
-            .filter(|k| {
-                k / self.columns == at / self.columns || k % self.columns == at % self.columns
-            })
-            .fold(0, with)
+        let columns = self.columns;
+        let (row, column) = (at / columns, at % columns);
+        // No grid has more cabinets than MAX_CABINETS; said here, it spares the loop the question whether k is below 16.
+        let cabinets = self.cabinets.count().min(MAX_CABINETS);
+        (0..cabinets).fold(0, |set, k| {
+            if k / columns == row || k % columns == column {
+                with(set, k)
+            } else {
+                set
+            }
+        })
     }
 }
 
@@ -74,6 +80,6 @@ impl QuorumSystem for Grid {
         (0..self.cabinets.count())
             .map(|at| self.cross(at))
             .filter(|s| is_inside(*s, given))
-            .min()
+            .fold(None, |best, s| Some(least(best, s)))
     }
 }

@@ -7,7 +7,7 @@ ghost use Rattle.quorums.specs.Members.{member_below};
 
 use crate::QuorumSystem;
 use crate::cabinets::Cabinets;
-use crate::sets::{has, with};
+use crate::sets::{all, has};
 use words::refusal::Refusal;
 
 #[derive(Clone, Copy, PartialEq, Eq, Debug)]
@@ -46,11 +46,10 @@ impl QuorumSystem for Majority {
     }
 
     fn pick(&self, given: u16) -> Option<u16> {
-        let needed = self.cabinets.count() / 2 + 1;
-        let chosen = (0..self.cabinets.count())
+        // the members of the given set up to the last that a majority needs
+        (0..self.cabinets.count())
             .filter(|k| has(given, *k))
-            .take(usize::from(needed))
-            .fold(0, with);
-        (chosen.count_ones() == u32::from(needed)).then_some(chosen)
+            .nth(usize::from(self.cabinets.count() / 2))
+            .map(|last| given & all(last + 1))
     }
 }

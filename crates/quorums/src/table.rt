@@ -8,7 +8,7 @@ ghost use Rattle.quorums.specs.Members.{member_below};
 
 use crate::QuorumSystem;
 use crate::cabinets::Cabinets;
-use crate::sets::{all, do_share, is_inside};
+use crate::sets::{all, do_share, is_inside, least};
 use words::refusal::Refusal;
 
 // The most quorums that a table lists.
@@ -81,6 +81,6 @@ impl QuorumSystem for Table {
             .iter()
             .copied()
             .filter(|s| is_inside(*s, given))
-            .min()
+            .fold(None, |best, s| Some(least(best, s)))
     }
 }

@@ -16,7 +16,7 @@ module _ (tags : List Tag) (set : ℕ) where
   Top n (Some t) = Held tags set t × ((k : ℕ) → k < n → Member k set → Upto (told tags k) t)
 
   -- a member more, of the tag t; r is the later of it and the best so far
-  top_more : (n : ℕ) (best : Option Tag) (t r : Tag) → Top n best → Member n set → told tags n ≡ t → Upto t r → MatchOption best (r ≡ t) (λ b. Upto b r × ((r ≡ b) ⊎ (r ≡ t))) → Top (n + 1) (Some r)
+  pub top_more : (n : ℕ) (best : Option Tag) (t r : Tag) → Top n best → Member n set → told tags n ≡ t → Upto t r → MatchOption best (r ≡ t) (λ b. Upto b r × ((r ≡ b) ⊎ (r ≡ t))) → Top (n + 1) (Some r)
   top_more n None t r top m e up is = (
     (n, m, e ∙ sym is),
     λ k h mk. ⊎_elim (λ l. absurd (top k l mk)) (λ l. let at : n ≡ k = omega arith in subst (λ (j : ℕ). Upto (told tags j) r) at (subst (λ (u : Tag). Upto u r) (sym e) up)) (cases_lt k n),

@@ -1,4 +1,4 @@
-use Rattle.std.proofs.Common.{ℕ, ◌<◌, ◌≤◌, length, Ok, Err, sym, refl, ap, ◌∙◌, subst, inl, inr, rules}
+use Rattle.std.proofs.Common.{ℕ, ◌<◌, ◌≤◌, length, Ok, Err, sym, refl, ap, ◌∙◌, subst, inl, inr, option_copied, rules}
 use Rattle.words.specs.declared.refusal.Refusal.TheVariants.{BookFull, BusFull}
 use Rattle.line.specs.Lines.{size}
 use Rattle.line.specs.Seen.{seen}
@@ -16,7 +16,7 @@ returns-then-m g c =
     let sound = c.in_ok-free.ensures.sound.0 in
     let line = c.if-not-is_station.ensures in
     refused (g.S.QuorumSystem.size system) (g.S.QuorumSystem.quorum system) (began c.args.station c.args.work (Err BusFull)) m sound
-    (inr (inr (inl (line, sym c.hand_at.ensures ∙ not_some c.hand_at.result (sym c.is_some.ensures ∙ c.if-is_some.false), (no_room _ m sound (size (seen m)) c.if-m.true, (BusFull, refl, refl, refl))))))
+    (inr (inr (inl (line, sym c.hand_at.ensures ∙ ap option_copied (not_some c.hand_at.result (sym c.is_some.ensures ∙ c.if-is_some.false)), (no_room _ m sound (size (seen m)) c.if-m.true, (BusFull, refl, refl, refl))))))
 
 pub returns-then-free-rows_wanted : goal.returns-then-free-rows_wanted
 returns-then-free-rows_wanted g c =
@@ -29,7 +29,7 @@ returns-then-free-rows_wanted g c =
     refused (g.S.QuorumSystem.size system) (g.S.QuorumSystem.quorum system) (began c.args.station c.args.work (Err BookFull)) m sound
     (inr (inr (inr (inl (
       line,
-      sym c.hand_at.ensures ∙ not_some c.hand_at.result (sym c.is_some.ensures ∙ c.if-is_some.false),
+      sym c.hand_at.ensures ∙ ap option_copied (not_some c.hand_at.result (sym c.is_some.ensures ∙ c.if-is_some.false)),
       has_room _ m sound (size (seen m)) c.if-m.false,
       (not_free _ m sound c.in_ok-free.free judged.1 (wants c.args.work) few, (BookFull, refl, refl, refl)),
     )))))
@@ -57,7 +57,7 @@ returns g c =
     let done = accepted (g.S.QuorumSystem.size system) (g.S.QuorumSystem.quorum system) (began c.args.station c.args.work (Ok (c.args.station, c.start-job.result))) m c.start-job.new.self.m.now _ sound
     (inr (inr (inr (inr (
       line,
-      sym c.hand_at.ensures ∙ not_some c.hand_at.result (sym c.is_some.ensures ∙ c.if-is_some.false),
+      sym c.hand_at.ensures ∙ ap option_copied (not_some c.hand_at.result (sym c.is_some.ensures ∙ c.if-is_some.false)),
       has_room _ m sound (size (seen m)) c.if-m.false,
       has_free _ m sound c.in_ok-free.free judged.1 (wants c.args.work) enough,
       ap (λ (k : ℕ). Ok (c.args.station, k)) job,

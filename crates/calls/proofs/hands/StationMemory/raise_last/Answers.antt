@@ -13,6 +13,7 @@ returns g c =
     let s = a.station in
     let n = length m.replicas.now in
     let known = m.answers.now in
-    subst (λ (h : Option (Hand g.row.V.Denot)). Goes a (change (line a) s c.args.last h ((line a).answers s)) c.change.new.self) c.hand_at-hand.ensures
+    let held = c.copied-hand.ensures ∙ c.hand_at.ensures in
+    subst (λ (h : Option (Hand g.row.V.Denot)). Goes a (change (line a) s c.args.last h ((line a).answers s)) c.change.new.self) held
     (c.change.ensures ((line a).answers s)
-    (λ x. ap (λ (h : Option (Hand g.row.V.Denot)). live_in_line n known s x h) c.hand_at-hand.ensures ∙ sym (own_answers m.stations.now n known s x a.there.0)))
+    (λ x. ap (λ (h : Option (Hand g.row.V.Denot)). live_in_line n known s x h) held ∙ sym (own_answers m.stations.now n known s x a.there.0)))

@@ -1,36 +1,33 @@
-use Rattle.std.proofs.Common.{◌≡◌, ℕ, ◌+◌, ◌/◌, ◌%◌, ◌^◌, Bool, eqb, ⊎_elim, ap, Some, rules, sym, subst, ◌∙◌, arith}
+use Rattle.std.proofs.Common.{◌≡◌, ℕ, suc, min, ◌+◌, ◌-◌, ◌/◌, ◌%◌, ◌^◌, ◌<◌, ◌≤◌, bit_and, Some, None, Option, MatchOption, IsSomeAnd, ap, rules, sym, subst, ◌∙◌, arith}
 use lib.Count.{ones}
-use Rattle.std.specs.Bool.{then_some}
-use Rattle.std.proofs.lemmas.Bool.{eq-eqb, ne_eqb}
-use Rattle.std.proofs.lemmas.Iterator.{YieldsList-from_range, YieldsList-from_take}
-use Rattle.std.proofs.lemmas.Iterator.Consumers.{YieldsList-at, YieldsList-from_filter, fold_from_yields_List}
+use Rattle.std.proofs.lemmas.Iterator.{YieldsList-from_range}
+use Rattle.std.proofs.lemmas.Iterator.Adapters.{option_map_id}
+use Rattle.std.proofs.lemmas.Iterator.Consumers.{YieldsList-from_filter, nth_from_yields_List}
+use Rattle.std.proofs.lemmas.Nat.{and_mask}
 use Rattle.quorums.specs.Families.{MajorityOf}
 use Rattle.quorums.specs.Majorities.{least, too_few}
 use Rattle.quorums.specs.Sets.{Picked}
-use Rattle.quorums.proofs.Gathers.{FrontOf, front_few, put}
+use Rattle.quorums.proofs.Gathers.{nth_member}
 use Rattle.quorums.proofs.Tests.{joins, joins_same}
 use Rattle.quorums.proofs.majority.MajorityQuorumSystem.pick.Goals as goal
 
--- the front that has enough members is picked, and none if there are too few
-few : (n given r wanted : ℕ) → FrontOf given n wanted r → wanted ≡ n / 2 + 1 → Picked (MajorityOf n) given (then_some (eqb (ones r) wanted) r)
-few n given r wanted f e =
-    ⊎_elim
-    (λ enough.
-    subst (λ (b : Bool). Picked (MajorityOf n) given (then_some b r)) (sym (eq-eqb (ones r) wanted enough))
-    (subst (λ (s : ℕ). Picked (MajorityOf n) given (Some s)) (sym f.2) (least n given f.0 f.1 (ap ones (sym f.2) ∙ enough ∙ e))))
-    (λ short.
-    subst (λ (b : Bool). Picked (MajorityOf n) given (then_some b r)) (sym (ne_eqb (ones r) wanted (λ same. omega (arith, short.1))))
-    (too_few n given (omega (arith, short.1, ap ones (f.2 ∙ ap (λ (k : ℕ). given % 2 ^ k) short.0)))))
-    f.3
+-- with enough members those up to the last that is needed are picked, and none if there are too few
+enough : (n given i : ℕ) (last r : Option ℕ) → n ≤ 16 → i ≡ n / 2
+    → MatchOption last (ones (given % 2 ^ n) ≤ i) (λ k. (k < n) × (ones (given % 2 ^ (k + 1)) ≡ suc i))
+    → MatchOption last (r ≡ None) (λ k. IsSomeAnd r (λ s. s ≡ bit_and given (2 ^ min (k + 1) 16 - 1)))
+    → Picked (MajorityOf n) given r
+enough n given i None r h e short is = subst (Picked (MajorityOf n) given) (sym is) (too_few n given (omega (arith, short)))
+enough n given i (Some k) None h e m is = absurd is
+enough n given i (Some k) (Some s) h e m is =
+    let few : min (k + 1) 16 ≡ k + 1 = omega (arith, m.0) in
+    let front = is ∙ ap (λ (j : ℕ). bit_and given (2 ^ j - 1)) few ∙ and_mask given (k + 1) in
+    subst (λ (t : ℕ). Picked (MajorityOf n) given (Some t)) (sym front) (least n given (k + 1) (omega (arith, m.0)) (omega (arith, m.1)))
 
 pub returns : goal.returns
 returns c =
     let n = c.args.self.now.cabinets.count in
     let given = c.args.given in
-    let wanted = c.from-2.result in
-    let e = fold_from_yields_List _ put 0 c.fold-chosen.result c.fold-chosen.ensures.ran
-    (YieldsList-from_take wanted (YieldsList-at c.take.ensures.source (YieldsList-from_filter _ (joins given) (YieldsList-from_range 0 n n (cc) (omega arith)) c.filter.ensures.closure (λ x r q k. search (rules, joins_same)))) (cc))
-    (λ a x b q k. search rules) in
-    let r = c.fold-chosen.result in
-    subst (Picked (MajorityOf n) given) (sym c.then_some.ensures)
-    (few n given r wanted (subst (FrontOf given n wanted) (sym e) (front_few given wanted n (omega arith))) (omega arith))
+    let e = sym (option_map_id _) ∙ nth_from_yields_List c.nth.result _ _ c.nth.ensures.ran
+    (YieldsList-from_filter _ (joins given) (YieldsList-from_range 0 n n (cc) (omega arith)) c.filter.ensures.closure (λ x r q k. search (rules, joins_same))) in
+    let last = subst (λ (o : Option ℕ). MatchOption o (ones (given % 2 ^ n) ≤ c.from.result) (λ k. (k < n) × (ones (given % 2 ^ (k + 1)) ≡ suc c.from.result))) (sym e) (nth_member given n c.from.result) in
+    enough n given c.from.result c.nth.result c.map.result (omega arith) (omega arith) last (search rules)
