@@ -26,7 +26,7 @@ fn station_at<'a, V>(m: &'a Memory<'_, V>, station: u8) -> &'a Station<V>
     &stations[usize::from(station) - 1]
 }
 
-// The station's job in hand, where it lies: a copy is made only of what goes on.
+// The station's job in hand, where it lies: no copy is made to look at it.
 pub(crate) fn hand_at<'a, V>(m: &'a Memory<'_, V>, station: u8) -> Option<&'a Hand<V>>
     requires { IsStation (seen m.now) station }
     ensures { option_copied result ≡ hand_of (seen m.now) station }

@@ -46,7 +46,7 @@ impl fmt::Display for CabinetSet {
 #[derive(Clone, Copy, PartialEq, Eq, Debug)]
 pub(crate) struct ToldTag(pub(crate) Tag);
 
-// The text is no tag. A small error, since each tag of a request is returned beside its place.
+// The text is no tag. An error without text, since each result carries room for its error.
 #[derive(Clone, Copy, PartialEq, Eq, Debug)]
 pub(crate) struct NoTag;
 
