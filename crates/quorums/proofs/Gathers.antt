@@ -1,5 +1,5 @@
 -- Sets gathered from a row of cabinets: all that pass a test, and the members one after the other.
-use Rattle.std.proofs.Common.{◌≡◌, ℕ, zero, suc, ◌+◌, ◌%◌, ◌^◌, ◌<◌, ◌≤◌, ◌∷◌, Bool, true, false, cond, nat_lt, List, MatchBool, MatchOption, Option, Some, None, refl, ap, subst, ◌∙◌, arith}
+use Rattle.std.proofs.Common.{◌≡◌, ℕ, zero, suc, ◌+◌, ◌%◌, ◌^◌, ◌<◌, ◌≤◌, ◌∷◌, Bool, true, false, cond, nat_lt, MatchBool, Option, Some, None, refl, ap, subst, arith}
 use Rattle.std.specs.List.{filter, fold, range_with_len, slice_get}
 use lib.Bits.{bit_or}
 use lib.Count.{ones}
@@ -15,11 +15,6 @@ put s k = cond (nat_lt k 16) (bit_or s (2 ^ k)) s
 -- the same for a cabinet that passes a test, and no other
 abbrev pub put_if : (ℕ → Bool) → ℕ → ℕ → ℕ
 put_if test s k = cond (test k) (put s k) s
-
--- what follows from each case
-pub match_both : {P Q : Type 0} {R S : ℕ → Type 0} → (o : Option ℕ) → (P → Q) → ((k : ℕ) → R k → S k) → MatchOption o P R → MatchOption o Q S
-match_both None f g h = f h
-match_both (Some k) f g h = g k h
 
 module _ (P : ℕ → Type 0) (test : ℕ → Bool) (tells : (k : ℕ) → MatchBool (test k) (P k) (P k → ⊥)) where
   -- on from cabinet a, with those before it that pass
@@ -39,29 +34,40 @@ module _ (P : ℕ → Type 0) (test : ℕ → Bool) (tells : (k : ℕ) → Match
       let e : 0 + n ≡ n = omega arith in
       subst (λ (m : ℕ). Those P m (fold (put_if test) 0 (range_with_len 0 n))) e (onward n 0 0 (omega arith) (those_none P))
 
--- the members of a given set from cabinet a on, in turn
+-- The members of a given set in turn. Member number i of those that come behind `low` others, among the cabinets below n: there is
+-- none if they are too few, and else it is the last of as many as are wanted.
+abbrev pub MemberAt : ℕ → ℕ → ℕ → ℕ → Option ℕ → Type 0
+MemberAt given low n i None = ones (given % 2 ^ n) ≤ low + i
+MemberAt given low n i (Some k) = (k < n) × (ones (given % 2 ^ (k + 1)) ≡ low + suc i)
+
 module _ (given : ℕ) where
-  -- on to member number i, of as many as there are among n cabinets
-  nth_on : (n a i : ℕ) → MatchOption (slice_get (filter (joins given) (range_with_len a n)) i) (ones (given % 2 ^ (a + n)) ≤ ones (given % 2 ^ a) + i) (λ k. (k < a + n) × (ones (given % 2 ^ (k + 1)) ≡ ones (given % 2 ^ a) + suc i))
-  nth_on zero a i = let e : a + 0 ≡ a = omega arith in omega (arith, ap (λ (k : ℕ). ones (given % 2 ^ k)) e)
-  nth_on (suc n) a i =
+  -- the same member, counted from other places
+  moved : (low n i low' n' i' : ℕ) → ones (given % 2 ^ n) ≡ ones (given % 2 ^ n') → low + i ≡ low' + i' → n ≤ n' → (o : Option ℕ) → MemberAt given low n i o → MemberAt given low' n' i' o
+  moved low n i low' n' i' same sum on None h = omega (arith, h, same, sum)
+  moved low n i low' n' i' same sum on (Some k) h = (omega (arith, h.0, on), omega (arith, h.1, sum))
+
+  -- from cabinet a on
+  member_on : (n a i : ℕ) → MemberAt given (ones (given % 2 ^ a)) (a + n) i (slice_get (filter (joins given) (range_with_len a n)) i)
+  member_on zero a i = let e : a + 0 ≡ a = omega arith in omega (arith, ap (λ (k : ℕ). ones (given % 2 ^ k)) e)
+  member_on (suc n) a i =
+      let low = ones (given % 2 ^ a) in
+      let above = ones (given % 2 ^ (a + 1)) in
       let rest = filter (joins given) (range_with_len (a + 1) n) in
       let whole : a + 1 + n ≡ a + suc n = omega arith in
       let same = ap (λ (k : ℕ). ones (given % 2 ^ k)) whole in
       let more = ones_more a given in
-      let P : List ℕ → Type 0 = λ xs. MatchOption (slice_get xs i) (ones (given % 2 ^ (a + suc n)) ≤ ones (given % 2 ^ a) + i) (λ k. (k < a + suc n) × (ones (given % 2 ^ (k + 1)) ≡ ones (given % 2 ^ a) + suc i)) in
-      elim (joins given a) as (λ b. MatchBool b (Member a given) (Member a given → ⊥) → P (cond b (a ∷ rest) rest)) [
-        | true ↦ λ m. elim i as (λ j. MatchOption (slice_get (a ∷ rest) j) (ones (given % 2 ^ (a + suc n)) ≤ ones (given % 2 ^ a) + j) (λ k. (k < a + suc n) × (ones (given % 2 ^ (k + 1)) ≡ ones (given % 2 ^ a) + suc j))) [
+      elim (joins given a) as (λ b. MatchBool b (Member a given) (Member a given → ⊥) → MemberAt given low (a + suc n) i (slice_get (cond b (a ∷ rest) rest) i)) [
+        | true ↦ λ m. elim i as (λ j. MemberAt given low (a + suc n) j (slice_get (a ∷ rest) j)) [
           | zero ↦ (omega arith, omega (arith, m, more))
-          | suc j ↦ match_both (slice_get rest j) (λ h. omega (arith, h, m, more, same)) (λ k h. (omega (arith, h.0), omega (arith, h.1, m, more))) (nth_on n (a + 1) j)
+          | suc j ↦ moved above (a + 1 + n) j low (a + suc n) (suc j) same (omega (arith, m, more)) (omega arith) (slice_get rest j) (member_on n (a + 1) j)
         ]
-        | false ↦ λ out. match_both (slice_get rest i) (λ h. omega (arith, h, same, ap ones (front_without a given out))) (λ k h. (omega (arith, h.0), omega (arith, h.1, ap ones (front_without a given out)))) (nth_on n (a + 1) i)
+        | false ↦ λ out. moved above (a + 1 + n) i low (a + suc n) i same (omega (arith, ap ones (front_without a given out))) (omega arith) (slice_get rest i) (member_on n (a + 1) i)
       ] (joins_so given a)
 
-  -- member number i of those below n, and how many there are up to it
-  pub nth_member : (n i : ℕ) → MatchOption (slice_get (filter (joins given) (range_with_len 0 n)) i) (ones (given % 2 ^ n) ≤ i) (λ k. (k < n) × (ones (given % 2 ^ (k + 1)) ≡ suc i))
-  nth_member n i =
+  -- from the first cabinet on
+  pub member_at : (n i : ℕ) → MemberAt given 0 n i (slice_get (filter (joins given) (range_with_len 0 n)) i)
+  member_at n i =
       let e : 0 + n ≡ n = omega arith in
       let front : given % 2 ^ 0 ≡ 0 = omega arith in
-      let none = ap ones front ∙ ones_zero in
-      match_both (slice_get (filter (joins given) (range_with_len 0 n)) i) (λ h. omega (arith, h, none, ap (λ (k : ℕ). ones (given % 2 ^ k)) e)) (λ k h. (omega (arith, h.0), omega (arith, h.1, none))) (nth_on n 0 i)
+      moved (ones (given % 2 ^ 0)) (0 + n) i 0 n i (ap (λ (k : ℕ). ones (given % 2 ^ k)) e) (omega (arith, ap ones front, ones_zero)) (omega arith)
+      (slice_get (filter (joins given) (range_with_len 0 n)) i) (member_on n 0 i)
